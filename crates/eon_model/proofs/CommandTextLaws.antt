@@ -21,46 +21,46 @@ use Rattle.eon_model.proofs.SpellingLaws.{decimal-lacks, number_value-decimal, s
 
 -- ---- reading
 
-class_read : List ℕ → Class
+unfoldable pub class_read : List ℕ → Class
 class_read word = if bytes_eq word (codes "bare") then Bare else Shared
 
-path_read : List ℕ → List ℕ → PathWords
+unfoldable pub path_read : List ℕ → List ℕ → PathWords
 path_read fibres n = record { fibres = split_by 44 fibres; n = signed_value n }
 
-demand_read : List ℕ → List ℕ → List ℕ → List ℕ → List ℕ → Demand
+unfoldable pub demand_read : List ℕ → List ℕ → List ℕ → List ℕ → List ℕ → Demand
 demand_read name src dst rate class =
     record { name = name; src = src; dst = dst; rate = number_value rate; class = class_read class }
 
 -- the command of these words; any command for words of none
-place_read : List (List ℕ) → Command
+unfoldable pub place_read : List (List ℕ) → Command
 place_read (name ∷ src ∷ dst ∷ rate ∷ class ∷ fibres ∷ n ∷ []) =
     Command.Place (demand_read name src dst rate class) (path_read fibres n) None
 place_read (name ∷ src ∷ dst ∷ rate ∷ class ∷ fibres ∷ n ∷ back ∷ m ∷ []) =
     Command.Place (demand_read name src dst rate class) (path_read fibres n) (Some (path_read back m))
 place_read _ = Command.Quit
 
-admit_read : List (List ℕ) → Command
+unfoldable pub admit_read : List (List ℕ) → Command
 admit_read (name ∷ src ∷ dst ∷ rate ∷ class ∷ []) = Command.Admit (demand_read name src dst rate class)
 admit_read _ = Command.Quit
 
-make_read : List (List ℕ) → Command
+unfoldable pub make_read : List (List ℕ) → Command
 make_read (name ∷ []) = Command.Make name None
 make_read (name ∷ avoid ∷ fibre ∷ []) = Command.Make name (Some fibre)
 make_read _ = Command.Quit
 
-push_read : List (List ℕ) → Command
+unfoldable pub push_read : List (List ℕ) → Command
 push_read (name ∷ n ∷ []) = Command.Push name (signed_value n)
 push_read _ = Command.Quit
 
-routes_read : List (List ℕ) → Command
+unfoldable pub routes_read : List (List ℕ) → Command
 routes_read (s ∷ t ∷ []) = Command.Routes s t
 routes_read _ = Command.Quit
 
-named_read : (Name → Command) → List (List ℕ) → Command
+unfoldable pub named_read : (Name → Command) → List (List ℕ) → Command
 named_read make (name ∷ []) = make name
 named_read make _ = Command.Quit
 
-pub words_read : List ℕ → List (List ℕ) → Command
+unfoldable pub words_read : List ℕ → List (List ℕ) → Command
 words_read word rest =
     if bytes_eq word (codes "place") then place_read rest
     else (if bytes_eq word (codes "admit") then admit_read rest
@@ -79,7 +79,7 @@ words_read word rest =
     else (if bytes_eq word (codes "stats") then Command.Stats
     else (if bytes_eq word (codes "report") then Command.Report else Command.Quit)))))))))))))))
 
-pub command_read : List (List ℕ) → Command
+unfoldable pub command_read : List (List ℕ) → Command
 command_read [] = Command.Quit
 command_read (word ∷ rest) = words_read word rest
 

@@ -15,6 +15,7 @@ use Rattle.eon_model.specs.Spelling.{line}
 
 -- ---- the networks that are planned: one format, two nodes, one fibre and no named group
 
+-- whether the network is one of these
 abbrev pub is_one_fibre : Setup → Bool
 is_one_fibre s =
     (length s.formats == 1) && (length s.network.nodes == 2) && (length s.network.fibres == 1)
@@ -22,12 +23,15 @@ is_one_fibre s =
 
 -- ---- the lines of the top call
 
+-- the usage line, of one mode
 abbrev pub dry_usage_line : List ℕ
 dry_usage_line = codes "usage: eonplan dry NET COMMANDS\n"
 
+-- the line for every network that is not one of these
 abbrev pub net_later_line : List ℕ
 net_later_line = line (codes "net" ∷ codes "later" ∷ [])
 
+-- the reply to every line that is not told yet
 abbrev pub later_line : List ℕ
 later_line = line (codes "later" ∷ [])
 
@@ -45,6 +49,7 @@ is_told_outcome (Say (Reply.Clash name)) = true
 is_told_outcome (Change e (Reply.Placed name)) = true
 is_told_outcome _ = false
 
+-- whether the command has the machine's reply
 abbrev pub is_told : Setup → State → Command → Bool
 is_told setup state c = is_told_command c && is_told_outcome (outcome_of setup state c)
 
@@ -53,10 +58,12 @@ pub data Told : Type 0 where
   Now : Answer → Told
   Later : Told
 
+-- the bytes of what a line comes to
 abbrev pub told_text : Setup → State → Told → List ℕ
 told_text setup state (Now a) = answer_text setup state a
 told_text setup state Told.Later = later_line
 
+-- the state after it
 abbrev pub state_told : Network → State → Told → State
 state_told net state (Now a) = state_after net state a.event
 state_told net state Told.Later = state
@@ -83,6 +90,7 @@ TellsLines setup missed number state (line ∷ lines) (t ∷ later) =
     Tells setup state line (has_number missed number) t
     × TellsLines setup missed (number + 1) (state_told setup.network state t) lines later
 
+-- the bytes of all lines
 abbrev pub told_texts : Setup → State → List Told → List ℕ
 told_texts setup state [] = []
 told_texts setup state (t ∷ later) =
@@ -127,5 +135,6 @@ BeginsToldLines setup missed number state (line ∷ lines) given =
     × (given ≡ told_text setup state t ++ later)
     × BeginsToldLines setup missed (number + 1) (state_told setup.network state t) lines later)
 
+-- what was given begins the output over this stream
 abbrev pub BeginsRunSoFar : Setup → List ℕ → List ℕ → List ℕ → Type 0
 BeginsRunSoFar setup bytes missed given = BeginsToldLines setup missed 1 [] (lines_of bytes) given

@@ -16,6 +16,7 @@ pub mod Drift
 pub mod Moments
 pub mod Events
 pub mod Plan
+pub mod Chain
 pub mod Commands
 pub mod Replies
 pub mod Spelling
@@ -31,6 +32,7 @@ pub mod Course
 pub mod NetworkText
 pub mod NetworkFault
 pub mod TopLines
+pub mod Modes
 pub mod Later
 pub mod Replay
 pub mod LoadGenerator

@@ -1,0 +1,42 @@
+#!/usr/bin/env bash
+# Times `eonplan dry` on a stream of place lines, beside `cat` of the same file.
+set -eu
+lines=${1:-1000000}
+top=$(cd "$(dirname "$0")/.." && pwd)
+work=$(mktemp -d)
+trap 'rm -rf "$work"' EXIT
+
+# A band of 1,024 units: 512 services of two slot units each fit, and every other line clashes or is taken.
+cat >"$work/net" <<'NET'
+net 1
+band -512 511
+guard 0
+k 1
+services 4096
+journal 4096
+format q16 500 100
+node A
+node B
+fibre ab A B 100
+end
+NET
+awk -v n="$lines" 'BEGIN { for (i = 0; i < n; i++) printf "place s%d A B 100 bare ab %d\n", i, (i * 7) % 1000 - 500 }' >"$work/commands"
+
+"$top/eonplan" dry "$work/net" "$work/net" >/dev/null || true
+measure() {
+    local name=$1
+    shift
+    /usr/bin/env python3 - "$name" "$lines" "$work/out" "$@" <<'PY'
+import os, resource, subprocess, sys, time
+name, lines, out, *words = sys.argv[1:]
+start = time.monotonic()
+with open(out, "wb") as sink:
+    status = subprocess.run(words, stdout=sink).returncode
+spent = time.monotonic() - start
+peak = resource.getrusage(resource.RUSAGE_CHILDREN).ru_maxrss
+print(f"{name}: {int(lines) / spent:,.0f} lines/s, {spent:.2f} s, peak {peak / 1024:.1f} MiB, status {status}")
+PY
+}
+measure "eonplan dry" "$top/eonplan" dry "$work/net" "$work/commands"
+cut -d' ' -f1,2 "$work/out" | awk '{ print ($1 == "ok" ? "ok" : $1) }' | sort | uniq -c
+measure "cat        " cat "$work/commands"

@@ -1,0 +1,4 @@
+pub mod KnownBytesLaws
+pub mod FindLaws
+pub mod ReadLaws
+pub mod Untold

@@ -1,0 +1,21 @@
+use Rattle.std.proofs.Common.{refl}
+use Rattle.eon_outside.proofs.Untold.{untold_open, untold_read}
+use Rattle.eon_outside.proofs.real_files.FileShelfShelf.TheImpl.Goals as goal
+
+pub open-tells : goal.open-tells
+open-tells g c = record {
+  bytes = tt;
+  none_open = untold_open c.result;
+  files = refl;
+  opened = c.ensures.opened;
+  cause = c.ensures.cause;
+}
+
+pub read-tells : goal.read-tells
+read-tells g c = record {
+  bound = c.ensures.bound;
+  bytes = untold_read c.result c.new.buf.now;
+  files = refl;
+  opened = c.ensures.opened;
+  cause = c.ensures.cause;
+}

@@ -1,0 +1,27 @@
+//! What the planner reads from and writes to: the traits `Shelf` and `Sink`, both held in memory for tests and over
+//! the real files and standard output. The layer above works over the traits, whose clauses say what was read, opened
+//! and given where an object tells it, and that a call fails only where the object's count of faults rose.
+#![tactic(auto)]
+
+mod call_plan;
+pub mod copying;
+pub mod files_in_memory;
+mod opened_names;
+pub mod output_in_memory;
+pub mod reading;
+pub mod real_files;
+pub mod real_output;
+pub mod whole_file;
+pub mod writing;
+
+pub use copying::{CopyFault, copy_up_to};
+pub use files_in_memory::MemShelf;
+pub use output_in_memory::MemSink;
+pub use reading::{Failed, Shelf};
+pub use real_files::FileShelf;
+pub use real_output::StdoutSink;
+pub use whole_file::{ReadEnd, ReadFault, read_up_to};
+pub use writing::{Sink, write_all};
+
+#[cfg(test)]
+mod tests;

@@ -1,0 +1,52 @@
+//! Standard output.
+ghost use Rattle.std.specs.Prelude.{◌≡◌, ℕ, None, is_err, if◌then◌else◌};
+ghost use Rattle.eon_outside.specs.Faults.{HasCause, counted};
+ghost use Rattle.eon_outside.specs.Writing.{TakesSome};
+
+use crate::reading::Failed;
+use crate::writing::Sink;
+use std::io::Print;
+
+/// Standard output. It tells nothing of what it was given. Each error of the system is a fault, an interrupted call
+/// too, and so is a write that takes nothing.
+#[derive(Drop)]
+pub struct StdoutSink<'a, R: Print> {
+    rt: &'a R,
+    faults: u64,
+}
+
+impl<'a, R: Print> StdoutSink<'a, R> {
+    /// The standard output of this runtime.
+    pub fn new(rt: &'a R) -> StdoutSink<'a, R>
+        ensures { result.faults ≡ 0 }
+    {
+        StdoutSink { rt, faults: 0 }
+    }
+
+    /// How many calls failed. The count stays at 2^64 - 1.
+    pub fn faults(&self) -> u64
+        ensures { result ≡ self.now.faults }
+    {
+        self.faults
+    }
+}
+
+impl<'a, R: Print> Sink for StdoutSink<'a, R> {
+    ghost given = { λ _. None };
+
+    ghost faults = { λ s. s.faults };
+
+    fn write(&mut self, piece: &[u8]) -> Result<usize, Failed>
+        ensures bound { TakesSome result piece.now }
+        ensures cause { HasCause self.old.faults self.new.faults result }
+        ensures counts { self.new.faults ≡ (if is_err result then counted self.old.faults else self.old.faults) }
+    {
+        match self.rt.write_some(piece) {
+            Ok(0) | Err(_) => {
+                self.faults = self.faults.saturating_add(1);
+                Err(Failed)
+            }
+            Ok(count) => Ok(count),
+        }
+    }
+}

@@ -1,0 +1,13 @@
+pub mod AnswerLaws
+pub mod AskedFacts
+pub mod BareLaws
+pub mod DecisionLaws
+pub mod LineLaws
+pub mod LiveLaws
+pub mod MeetingLaws
+pub mod MetLaws
+pub mod OneFibreLaws
+pub mod OverLaws
+pub mod PlaceOutcomes
+pub mod RangeFacts
+pub mod ReplyLaws

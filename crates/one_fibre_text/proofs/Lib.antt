@@ -1,0 +1,8 @@
+pub mod PlainFacts
+pub mod LineLaws
+pub mod FibreLineLaws
+pub mod LimitsLaws
+pub mod SetupParts
+pub mod TextLaws
+pub mod ReadLaws
+pub mod PlaceLaws

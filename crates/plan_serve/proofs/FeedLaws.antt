@@ -1,0 +1,256 @@
+-- The lines of a piece, one after the other.
+use Rattle.std.proofs.Common.{◌≡◌, refl, sym, ◌∙◌, ap, subst, zero, suc, ℕ, ◌+◌, ◌-◌, ◌≤◌, ◌<◌, min, true, false, List, [], ◌∷◌, ◌++◌, append_assoc, length, take, drop, Option, Result, Ok, Err, arith}
+use Rattle.std.specs.Prelude.{IsTrue, ◌==◌}
+use Rattle.std.proofs.lemmas.List.{length-take, length-drop, take-append-drop}
+use Rattle.eon_model.specs.Services.{State}
+use Rattle.eon_model.specs.Legal.{Setup}
+use Rattle.one_fibre.specs.Machine.{AnswersLine}
+use Rattle.plan_serve.specs.Lines.{has_no_end, most_kept}
+use Rattle.plan_serve.specs.Session.{AreAnswered, Breaks, FeedsAll, FeedsPart, Splits, last_line}
+use Rattle.plan_serve.proofs.AnswerLaws.{answered_none, answered_more, breaks_after, breaks_more, one_answered, one_breaks}
+use Rattle.plan_serve.proofs.LineLaws.{splits_more, splits_rest, splits_line, no_end-append, no_text_more}
+use Rattle.plan_serve.proofs.KeptLaws.{take_front-append, empty_front}
+use Rattle.plan_serve.proofs.TellLaws.{Tells-front}
+
+-- ---- one line
+
+-- the answer to a long line is that to its first bytes
+pub answers_front : {T E : Type 0} (setup : Setup) (a b : State) (line : List ℕ) (p q : Option (List ℕ))
+    (r : Result T E) → AnswersLine {T = T} {E = E} setup a b (take most_kept line) p q r →
+    AnswersLine {T = T} {E = E} setup a b line p q r
+answers_front setup a b line p q r h = record {
+  told = h.told;
+  tells = Tells-front setup a line _ h.told h.tells;
+  state = h.state;
+  ok = h.ok;
+  err = h.err;
+}
+
+-- the line is told by what was kept of its beginning and what came then
+pub answers_kept : {T E : Type 0} (setup : Setup) (a b : State) (begun fragment part line : List ℕ)
+    (p q : Option (List ℕ)) (r : Result T E) → begun ≡ take most_kept fragment →
+    line ≡ take most_kept (begun ++ part) → AnswersLine {T = T} {E = E} setup a b line p q r →
+    AnswersLine {T = T} {E = E} setup a b (fragment ++ part) p q r
+answers_kept {T} {E} setup a b begun fragment part line p q r kept is h =
+    answers_front setup a b (fragment ++ part) p q r
+    (subst (λ (v : List ℕ). AnswersLine {T = T} {E = E} setup a b v p q r)
+    (is ∙ ap (λ (v : List ℕ). take most_kept (v ++ part)) kept ∙ take_front-append most_kept fragment part) h)
+
+-- the line is told by what was kept of it
+pub answers_begun : {T E : Type 0} (setup : Setup) (a b : State) (fragment line : List ℕ)
+    (p q : Option (List ℕ)) (r : Result T E) → line ≡ take most_kept fragment →
+    AnswersLine {T = T} {E = E} setup a b line p q r →
+    AnswersLine {T = T} {E = E} setup a b fragment p q r
+answers_begun {T} {E} setup a b fragment line p q r is h =
+    answers_front setup a b fragment p q r
+    (subst (λ (v : List ℕ). AnswersLine {T = T} {E = E} setup a b v p q r) is h)
+
+-- nothing had begun
+pub answers_whole : {T E : Type 0} (setup : Setup) (a b : State) (begun fragment part : List ℕ)
+    (p q : Option (List ℕ)) (r : Result T E) → begun ≡ take most_kept fragment → begun ≡ [] →
+    AnswersLine {T = T} {E = E} setup a b part p q r →
+    AnswersLine {T = T} {E = E} setup a b (fragment ++ part) p q r
+answers_whole {T} {E} setup a b begun fragment part p q r kept none h =
+    subst (λ (v : List ℕ). AnswersLine {T = T} {E = E} setup a b (v ++ part) p q r)
+    (sym (empty_front most_kept fragment (omega arith) (sym kept ∙ none))) h
+
+-- ---- a piece
+
+pub feeds_none : (setup : Setup) (a : State) (begun fragment : List ℕ) (p : Option (List ℕ)) →
+    IsTrue (has_no_end fragment) → begun ≡ take most_kept fragment →
+    FeedsAll setup a a begun fragment p p
+feeds_none setup a begun fragment p whole kept = record {
+  lines = [];
+  rest = fragment;
+  splits = splits_rest fragment;
+  unended = whole;
+  kept = kept;
+  answered = answered_none setup a p;
+}
+
+splits_end : (bytes l more : List ℕ) (lines : List (List ℕ)) (rest : List ℕ) → Splits bytes lines rest →
+    IsTrue (has_no_end rest) → IsTrue (has_no_end l) →
+    Splits (bytes ++ (l ++ 10 ∷ more)) (lines ++ (rest ++ l) ∷ []) more
+splits_end bytes l more lines rest h whole part =
+    splits_more bytes (l ++ 10 ∷ more) rest more lines ((rest ++ l) ∷ []) h
+    (subst (λ (v : List ℕ). Splits v ((rest ++ l) ∷ []) more) (append_assoc rest l (10 ∷ more))
+    (splits_line (rest ++ l) more (no_end-append rest l whole part)))
+
+-- a line ends, and is answered
+pub feeds_line : {T E : Type 0} (setup : Setup) (a b c : State) (begun bytes l : List ℕ)
+    (p q r : Option (List ℕ)) (x : T) → IsTrue (has_no_end l) →
+    ((fragment : List ℕ) → begun ≡ take most_kept fragment →
+    AnswersLine {T = T} {E = E} setup b c (fragment ++ l) q r (Ok x)) →
+    FeedsAll setup a b begun bytes p q → FeedsAll setup a c [] (bytes ++ (l ++ 10 ∷ [])) p r
+feeds_line setup a b c begun bytes l p q r x part told h = record {
+  lines = h.lines ++ (h.rest ++ l) ∷ [];
+  rest = [];
+  splits = splits_end bytes l [] h.lines h.rest h.splits h.unended part;
+  unended = refl;
+  kept = refl;
+  answered = answered_more setup a b c h.lines ((h.rest ++ l) ∷ []) p q r h.answered
+      (one_answered setup b c (h.rest ++ l) q r x (told h.rest h.kept));
+}
+
+-- a line ends, and writing breaks off in its reply
+pub feeds_break : {T E : Type 0} (setup : Setup) (a b c : State) (begun bytes l more : List ℕ)
+    (p q r : Option (List ℕ)) (e : E) → IsTrue (has_no_end l) →
+    ((fragment : List ℕ) → begun ≡ take most_kept fragment →
+    AnswersLine {T = T} {E = E} setup b c (fragment ++ l) q r (Err e)) →
+    FeedsAll setup a b begun bytes p q → FeedsPart setup a (bytes ++ (l ++ 10 ∷ more)) p r
+feeds_break setup a b c begun bytes l more p q r e part told h = record {
+  lines = h.lines ++ (h.rest ++ l) ∷ [];
+  rest = more;
+  splits = splits_end bytes l more h.lines h.rest h.splits h.unended part;
+  breaks = breaks_after setup a b h.lines ((h.rest ++ l) ∷ []) p q r h.answered
+      (one_breaks setup b c (h.rest ++ l) q r e (told h.rest h.kept));
+}
+
+-- no further line ends
+pub feeds_rest : (setup : Setup) (a b : State) (begun new bytes more : List ℕ) (p q : Option (List ℕ)) →
+    IsTrue (has_no_end more) → new ≡ take most_kept (begun ++ more) →
+    FeedsAll setup a b begun bytes p q → FeedsAll setup a b new (bytes ++ more) p q
+feeds_rest setup a b begun new bytes more p q part is h = record {
+  lines = h.lines;
+  rest = h.rest ++ more;
+  splits = record {
+    whole = ap (λ (v : List ℕ). v ++ more) h.splits.whole ∙ append_assoc _ h.rest more;
+    each = h.splits.each;
+  };
+  unended = no_end-append h.rest more h.unended part;
+  kept = is ∙ ap (λ (v : List ℕ). take most_kept (v ++ more)) h.kept
+      ∙ take_front-append most_kept h.rest more;
+  answered = h.answered;
+}
+
+-- ---- pieces
+
+pub feeds_more : (setup : Setup) (a b c : State) (begun new bytes piece : List ℕ) (p q r : Option (List ℕ)) →
+    (h : FeedsAll setup a b begun bytes p q) → FeedsAll setup b c new (h.rest ++ piece) q r →
+    FeedsAll setup a c new (bytes ++ piece) p r
+feeds_more setup a b c begun new bytes piece p q r h k = record {
+  lines = h.lines ++ k.lines;
+  rest = k.rest;
+  splits = splits_more bytes piece h.rest k.rest h.lines k.lines h.splits k.splits;
+  unended = k.unended;
+  kept = k.kept;
+  answered = answered_more setup a b c h.lines k.lines p q r h.answered k.answered;
+}
+
+pub feeds_less : (setup : Setup) (a b : State) (begun bytes piece : List ℕ) (p q r : Option (List ℕ)) →
+    (h : FeedsAll setup a b begun bytes p q) → FeedsPart setup b (h.rest ++ piece) q r →
+    FeedsPart setup a (bytes ++ piece) p r
+feeds_less setup a b begun bytes piece p q r h k = record {
+  lines = h.lines ++ k.lines;
+  rest = k.rest;
+  splits = splits_more bytes piece h.rest k.rest h.lines k.lines h.splits k.splits;
+  breaks = breaks_after setup a b h.lines k.lines p q r h.answered k.breaks;
+}
+
+-- ---- the last line
+
+pub last_line-some : (bytes : List ℕ) → (bytes ≡ [] → ⊥) → last_line bytes ≡ bytes ∷ []
+last_line-some [] h = absurd (h refl)
+last_line-some (b ∷ bytes) h = refl
+
+nothing_kept : (n : ℕ) (begun fragment : List ℕ) → begun ≡ take n fragment → 0 < length begun →
+    fragment ≡ [] → ⊥
+nothing_kept n begun fragment kept some none =
+    let e : length begun ≡ length (take n fragment) = ap length kept in
+    let k : length (take n fragment) ≡ min n (length fragment) = length-take n fragment in
+    let l : length fragment ≡ 0 = ap length none in
+    omega arith
+
+pub above_zero : (n : ℕ) → (n == 0) ≡ false → 0 < n
+above_zero zero e = absurd (cc)
+above_zero (suc n) e = omega arith
+
+-- the last line is answered, told by what was kept of it
+pub finishes_all : {T E : Type 0} (setup : Setup) (a b : State) (begun fragment line : List ℕ)
+    (p q : Option (List ℕ)) (x : T) → begun ≡ take most_kept fragment → 0 < length begun → line ≡ begun →
+    AnswersLine {T = T} {E = E} setup a b line p q (Ok x) → AreAnswered setup a b (last_line fragment) p q
+finishes_all {T} {E} setup a b begun fragment line p q x kept some is h =
+    subst (λ (v : List (List ℕ)). AreAnswered setup a b v p q)
+    (sym (last_line-some fragment (nothing_kept most_kept begun fragment kept some)))
+    (one_answered {E = E} setup a b fragment p q x
+    (answers_begun {E = E} setup a b fragment line p q (Ok x) (is ∙ kept) h))
+
+-- writing breaks off in the reply to the last line
+pub finishes_part : {T E : Type 0} (setup : Setup) (a b : State) (begun fragment line : List ℕ)
+    (p q : Option (List ℕ)) (e : E) → begun ≡ take most_kept fragment → 0 < length begun → line ≡ begun →
+    AnswersLine {T = T} {E = E} setup a b line p q (Err e) → Breaks setup a (last_line fragment) p q
+finishes_part {T} {E} setup a b begun fragment line p q e kept some is h =
+    subst (λ (v : List (List ℕ)). Breaks setup a v p q)
+    (sym (last_line-some fragment (nothing_kept most_kept begun fragment kept some)))
+    (one_breaks {T = T} setup a b fragment p q e
+    (answers_begun {T = T} setup a b fragment line p q (Err e) (is ∙ kept) h))
+
+-- ---- as the loop over a piece meets them: what was done of the piece, and the rest of it
+
+-- the rest of the piece, without the line that ended
+pub rest_goes : (piece done rest : List ℕ) (at : ℕ) → drop at rest ≡ 10 ∷ drop (at + 1) rest →
+    piece ≡ done ++ rest → piece ≡ (done ++ (take at rest ++ 10 ∷ [])) ++ drop (at + 1) rest
+rest_goes piece done rest at ends whole =
+    whole ∙ ap (λ (v : List ℕ). done ++ v) (rest_is rest at ends)
+    ∙ ap (λ (v : List ℕ). done ++ v) (sym (append_assoc (take at rest) (10 ∷ []) (drop (at + 1) rest)))
+    ∙ sym (append_assoc done (take at rest ++ 10 ∷ []) (drop (at + 1) rest))
+  where
+    rest_is : (rest : List ℕ) (at : ℕ) → drop at rest ≡ 10 ∷ drop (at + 1) rest →
+        rest ≡ take at rest ++ 10 ∷ drop (at + 1) rest
+    rest_is rest at ends = sym (take-append-drop at rest) ∙ ap (λ (v : List ℕ). take at rest ++ v) ends
+
+pub rest_shorter : (rest : List ℕ) (n m bound : ℕ) → length rest ≤ bound →
+    length (take n (drop m rest)) ≤ bound
+rest_shorter rest n m bound low =
+    let k : length (take n (drop m rest)) ≡ min n (length (drop m rest)) = length-take n (drop m rest) in
+    let l : length (drop m rest) ≡ length rest - m = length-drop m rest in
+    omega arith
+
+pub feeds_next : {T E : Type 0} (setup here : Setup) (a b c : State) (begun new fragment done l : List ℕ)
+    (p q r : Option (List ℕ)) (x : T) → here ≡ setup → new ≡ [] → IsTrue (has_no_end l) →
+    ((f : List ℕ) → begun ≡ take most_kept f →
+    AnswersLine {T = T} {E = E} here b c (f ++ l) q r (Ok x)) →
+    FeedsAll setup a b begun (fragment ++ done) p q →
+    FeedsAll setup a c new (fragment ++ (done ++ (l ++ 10 ∷ []))) p r
+feeds_next {T} {E} setup here a b c begun new fragment done l p q r x same none part told h =
+    subst (λ (v : List ℕ). FeedsAll setup a c new v p r) (append_assoc fragment done (l ++ 10 ∷ []))
+    (subst (λ (v : List ℕ). FeedsAll setup a c v ((fragment ++ done) ++ (l ++ 10 ∷ [])) p r) (sym none)
+    (feeds_line {E = E} setup a b c begun (fragment ++ done) l p q r x part
+    (λ f kept. subst (λ (v : Setup). AnswersLine {T = T} {E = E} v b c (f ++ l) q r (Ok x)) same
+    (told f kept)) h))
+
+pub feeds_stop : {T E : Type 0} (setup here : Setup) (a b c : State) (begun fragment piece done rest : List ℕ)
+    (at : ℕ) (p q r : Option (List ℕ)) (e : E) → here ≡ setup → IsTrue (has_no_end (take at rest)) →
+    drop at rest ≡ 10 ∷ drop (at + 1) rest → piece ≡ done ++ rest →
+    ((f : List ℕ) → begun ≡ take most_kept f →
+    AnswersLine {T = T} {E = E} here b c (f ++ take at rest) q r (Err e)) →
+    FeedsAll setup a b begun (fragment ++ done) p q → FeedsPart setup a (fragment ++ piece) p r
+feeds_stop {T} {E} setup here a b c begun fragment piece done rest at p q r e same part ends whole told h =
+    let l = take at rest in
+    let more = drop (at + 1) rest in
+    let bytes : (fragment ++ done) ++ (l ++ 10 ∷ more) ≡ fragment ++ piece =
+    append_assoc fragment done (l ++ 10 ∷ more)
+    ∙ ap (λ (v : List ℕ). fragment ++ v)
+    (ap (λ (v : List ℕ). done ++ v) (sym (append_assoc l (10 ∷ []) more))
+    ∙ sym (append_assoc done (l ++ 10 ∷ []) more) ∙ sym (rest_goes piece done rest at ends whole)) in
+    subst (λ (v : List ℕ). FeedsPart setup a v p r) bytes
+    (feeds_break {T = T} setup a b c begun (fragment ++ done) l more p q r e part
+    (λ f kept. subst (λ (v : Setup). AnswersLine {T = T} {E = E} v b c (f ++ l) q r (Err e)) same
+    (told f kept)) h)
+
+pub feeds_end : (setup : Setup) (a b c : State) (begun new fragment piece done rest : List ℕ)
+    (p q : Option (List ℕ)) → c ≡ b → piece ≡ done ++ rest → IsTrue (has_no_end rest) →
+    new ≡ take most_kept (begun ++ rest) → FeedsAll setup a b begun (fragment ++ done) p q →
+    FeedsAll setup a c new (fragment ++ piece) p q
+feeds_end setup a b c begun new fragment piece done rest p q same whole part is h =
+    subst (λ (v : List ℕ). FeedsAll setup a c new v p q)
+    (append_assoc fragment done rest ∙ ap (λ (v : List ℕ). fragment ++ v) (sym whole))
+    (subst (λ (v : State). FeedsAll setup a v new ((fragment ++ done) ++ rest) p q) (sym same)
+    (feeds_rest setup a b begun new (fragment ++ done) rest p q part is h))
+
+pub feeds_begin : (setup : Setup) (a : State) (begun fragment : List ℕ) (p : Option (List ℕ)) →
+    IsTrue (has_no_end fragment) → begun ≡ take most_kept fragment →
+    FeedsAll setup a a begun (fragment ++ []) p p
+feeds_begin setup a begun fragment p whole kept =
+    subst (λ (v : List ℕ). FeedsAll setup a a begun v p p) (sym (no_text_more fragment))
+    (feeds_none setup a begun fragment p whole kept)

@@ -1,0 +1,24 @@
+use Rattle.std.proofs.Common.{◌≡◌, sym, ◌∙◌, subst, length, arith}
+use Rattle.std.proofs.lemmas.Bool.{eqb-true}
+use Rattle.eon_outside.specs.declared.reading.Failed.{Failed}
+use Rattle.one_fibre.specs.Machine.{Planned, AnswersLine}
+use Rattle.plan_serve.proofs.KeptLaws.{no_length}
+use Rattle.plan_serve.proofs.FeedLaws.{answers_whole, answers_kept}
+use Rattle.plan_serve.proofs.session.Session.end_line.Goals as goal
+
+pub returns-then-is_empty-clause-told : goal.returns-then-is_empty-clause-told
+returns-then-is_empty-clause-told g c = λ fragment kept.
+    let none : length c.args.self.now.begun.items ≡ 0 =
+    omega (arith, c.args.self.now.begun.ok.0, eqb-true _ 0 (sym c.is_empty.ensures ∙ c.if-is_empty.true)) in
+    answers_whole {E = Failed} _ _ _ c.args.self.now.begun.items fragment c.args.part.now _ _
+    c.answer.result kept (no_length _ none) c.answer.ensures.told
+
+pub returns-clause-told : goal.returns-clause-told
+returns-clause-told g c = λ fragment kept.
+    answers_kept {E = Failed} _ _ _ c.args.self.now.begun.items fragment c.args.part.now
+    c.as_slice.result.now _ _ c.answer-answered.result kept
+    (c.as_slice.ensures.value ∙ c.keep.ensures.begun)
+    (subst (λ (m : Planned). AnswersLine {E = Failed} m.setup m.state
+    c.answer-answered.new.self.state c.as_slice.result.now (g.K.Sink.given c.args.out.now)
+    (g.K.Sink.given c.answer-answered.new.out) c.answer-answered.result) c.keep.ensures.machine
+    c.answer-answered.ensures.told)

@@ -1,0 +1,22 @@
+use Rattle.std.proofs.Common.{◌≡◌, ℕ, ◌≤◌, List, ◌++◌, length, take}
+use Rattle.std.specs.Prelude.{IsTrue}
+use Rattle.plan_serve.specs.Lines.{has_no_end, most_kept}
+use Rattle.plan_serve.specs.Session.{FeedsAll}
+use Rattle.plan_serve.proofs.session.Session.feed.Given as goal
+
+abbrev pub invariant-loop-at : goal.invariant-loop-at
+invariant-loop-at g l = record {
+  short : length l.rest ≤ length l.piece;
+  done : List ℕ;
+  whole : l.piece ≡ done ++ l.rest;
+  setup : l.self.machine.setup ≡ l.initial.self.machine.setup;
+  fed : (fragment : List ℕ) → IsTrue (has_no_end fragment)
+      → l.initial.self.begun.items ≡ take most_kept fragment
+      → FeedsAll l.initial.self.machine.setup l.initial.self.machine.state
+      l.self.machine.state l.self.begun.items (fragment ++ done) (g.K.Sink.given l.initial.out)
+      (g.K.Sink.given l.out);
+  later : g.K.Sink.faults l.initial.out ≤ g.K.Sink.faults l.out;
+}
+
+abbrev pub decreases-loop-at : goal.decreases-loop-at
+decreases-loop-at g l = length l.rest

@@ -1,0 +1,7 @@
+pub mod Ends
+pub mod Files
+pub mod Lines
+pub mod Parts
+pub mod Session
+pub mod Status
+pub mod Words

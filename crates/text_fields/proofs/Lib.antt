@@ -1,0 +1,4 @@
+pub mod CutLaws
+pub mod SplitText
+pub mod Parts
+pub mod SpelledParts
