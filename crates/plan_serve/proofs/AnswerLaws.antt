@@ -1,12 +1,10 @@
 -- Runs over lines, joined end to end.
-use Rattle.std.proofs.Common.{◌≡◌, refl, sym, ◌∙◌, ap, subst, inl, inr, ℕ, ◌+◌, true, false, List, [], ◌∷◌, ◌++◌, append_assoc, Option, Some, None, Result, Ok, Err}
-use Rattle.std.specs.Prelude.{◌⊎◌, ⊤, codes, IsTrue}
+use Rattle.std.proofs.Common.{◌≡◌, refl, sym, ◌∙◌, ap, subst, inl, inr, ℕ, ◌+◌, true, false, List, [], ◌∷◌, ◌++◌, append_assoc, Option, Some, None, Ok, Err}
 use Rattle.std.specs.Io.KnownBytes.{Appends}
 use Rattle.eon_model.specs.Network.{Network}
 use Rattle.eon_model.specs.Services.{State}
 use Rattle.eon_model.specs.Legal.{Setup}
-use Rattle.eon_model.specs.Run.{IsPrefix}
-use Rattle.eon_model.specs.Later.{Told, Tells, TellsLines, told_text, told_texts, state_told, state_after_told, EndsInsideTold, BeginsTold, BeginsToldLines}
+use Rattle.eon_model.specs.Later.{Told, TellsLines, told_text, told_texts, state_told, state_after_told, BeginsToldLines}
 use Rattle.one_fibre.specs.Machine.{AnswersLine}
 use Rattle.plan_serve.specs.Session.{AreAnswered, BreaksIn, Breaks}
 

@@ -1,23 +1,21 @@
 -- How the run over a stream ends.
-use Rattle.std.proofs.Common.{◌≡◌, refl, sym, ◌∙◌, ap, subst, ℕ, ◌+◌, ◌-◌, ◌≤◌, ◌<◌, List, [], ◌∷◌, ◌++◌, append_assoc, length, length-append, take, drop, Option, Some, None, arith}
+use Rattle.std.proofs.Common.{◌≡◌, sym, ◌∙◌, ap, subst, ℕ, ◌+◌, ◌-◌, ◌≤◌, ◌<◌, List, [], ◌++◌, append_assoc, length, length-append, take, drop, Option, arith}
 use Rattle.std.specs.Prelude.{IsTrue}
-use Rattle.std.specs.Io.KnownBytes.{Appends, Consumes, Keeps, IsAtEnd}
+use Rattle.std.specs.Io.KnownBytes.{Consumes, Keeps, IsAtEnd}
 use Rattle.std.proofs.lemmas.List.{length-take-le, length-drop, take-take, take-append-drop}
 use Rattle.std.proofs.Math.Seq.{take-append_seam}
 use Rattle.eon_model.specs.Services.{State}
-use Rattle.eon_model.specs.Legal.{Setup, Legal}
+use Rattle.eon_model.specs.Legal.{Setup}
 use Rattle.eon_model.specs.Run.{lines_of}
-use Rattle.eon_model.specs.Later.{Told, TellsLines, told_texts, BeginsToldLines, RunsSoFar}
 use Rattle.plan_serve.specs.Files.{IsLeft, longest_stream}
 use Rattle.plan_serve.specs.Lines.{whole_lines, has_no_end, most_kept}
-use Rattle.plan_serve.specs.Ends.{Serves, Begins, AnswersAll, StopsAtLong, StopsReading, StopsWriting}
+use Rattle.plan_serve.specs.Ends.{AnswersAll, StopsAtLong, StopsReading, StopsWriting}
 use Rattle.plan_serve.specs.Session.{AreAnswered, Breaks, FeedsAll, FeedsPart, FinishesAt, ServedAt, last_line}
 use Rattle.plan_serve.specs.declared.status.Status.{Status}
 use Rattle.plan_serve.specs.declared.status.Status.TheVariants.{Done, Words, NetLater, ReadFault, Memory, WriteFault, InputLong}
-use Rattle.plan_serve.proofs.AnswerLaws.{answered_more, breaks_after, breaks_more, BreaksIn-begins}
-use Rattle.plan_serve.proofs.LineLaws.{no_text_more, no_lines_more, splits_none, lines_of-split, lines_of-last, whole_lines-split}
-use Rattle.plan_serve.proofs.FeedLaws.{feeds_none, feeds_more, feeds_less}
-use Rattle.plan_serve.proofs.TellLaws.{told_texts-begins}
+use Rattle.plan_serve.proofs.AnswerLaws.{answered_more, breaks_after}
+use Rattle.plan_serve.proofs.LineLaws.{no_text_more, no_lines_more, lines_of-split, lines_of-last, whole_lines-split}
+use Rattle.plan_serve.proofs.FeedLaws.{feeds_more, feeds_less}
 use Rattle.plan_serve.proofs.ServeLaws.{Going, consumes_more, consumes_kept, rest_of, left_is, stream_is, stream_ends, left_ends, serves_lines, begins_lines, begins_broken}
 
 -- ---- the ends

@@ -1,5 +1,5 @@
 -- The lines of a piece, one after the other.
-use Rattle.std.proofs.Common.{◌≡◌, refl, sym, ◌∙◌, ap, subst, zero, suc, ℕ, ◌+◌, ◌-◌, ◌≤◌, ◌<◌, min, true, false, List, [], ◌∷◌, ◌++◌, append_assoc, length, take, drop, Option, Result, Ok, Err, arith}
+use Rattle.std.proofs.Common.{◌≡◌, refl, sym, ◌∙◌, ap, subst, zero, suc, ℕ, ◌+◌, ◌-◌, ◌≤◌, ◌<◌, min, false, List, [], ◌∷◌, ◌++◌, append_assoc, length, take, drop, Option, Result, Ok, Err, arith}
 use Rattle.std.specs.Prelude.{IsTrue, ◌==◌}
 use Rattle.std.proofs.lemmas.List.{length-take, length-drop, take-append-drop}
 use Rattle.eon_model.specs.Services.{State}
@@ -7,7 +7,7 @@ use Rattle.eon_model.specs.Legal.{Setup}
 use Rattle.one_fibre.specs.Machine.{AnswersLine}
 use Rattle.plan_serve.specs.Lines.{has_no_end, most_kept}
 use Rattle.plan_serve.specs.Session.{AreAnswered, Breaks, FeedsAll, FeedsPart, Splits, last_line}
-use Rattle.plan_serve.proofs.AnswerLaws.{answered_none, answered_more, breaks_after, breaks_more, one_answered, one_breaks}
+use Rattle.plan_serve.proofs.AnswerLaws.{answered_none, answered_more, breaks_after, one_answered, one_breaks}
 use Rattle.plan_serve.proofs.LineLaws.{splits_more, splits_rest, splits_line, no_end-append, no_text_more}
 use Rattle.plan_serve.proofs.KeptLaws.{take_front-append, empty_front}
 use Rattle.plan_serve.proofs.TellLaws.{Tells-front}

@@ -1,8 +1,8 @@
 -- Fronts of a line, and where a line ends.
-use Rattle.std.proofs.Common.{◌≡◌, refl, sym, ◌∙◌, ap, subst, zero, suc, ℕ, ◌+◌, ◌-◌, ◌≤◌, ◌<◌, min, Bool, true, false, not, List, [], ◌∷◌, ◌++◌, length, take, drop, get_or, Option, Some, None, arith, drop-cons, length-append, add-one}
+use Rattle.std.proofs.Common.{◌≡◌, refl, sym, ◌∙◌, ap, subst, zero, suc, ℕ, ◌+◌, ◌-◌, ◌≤◌, ◌<◌, min, Bool, true, false, List, [], ◌∷◌, ◌++◌, length, take, drop, Option, Some, None, arith, drop-cons, add-one}
 use Rattle.std.specs.Prelude.{IsTrue, IsNone, IfSome, ◌==◌, slice_index, nat_le}
 use Rattle.std.proofs.lemmas.Bool.{and_from, leb-true, le-leb, both_ways, eqb-true, false_from_ne_true, not_from_false}
-use Rattle.std.proofs.lemmas.List.{take_all, take-take, take-append-le, length-take, length-take-le, take-append-drop}
+use Rattle.std.proofs.lemmas.List.{take_all, take-take, take-append-le, length-take, length-take-le}
 use Rattle.std.proofs.Math.Seq.{take-append-add}
 use Rattle.memchr.specs.Find.{IsFirstByte, is_byte}
 use Rattle.plan_serve.specs.Lines.{has_no_end}

@@ -1,23 +1,21 @@
 -- What is told of one line: there is always something, and it keeps states legal.
-use Rattle.std.proofs.Common.{◌≡◌, ◌≢◌, refl, sym, ◌∙◌, ap, subst, inl, inr, ℕ, ◌+◌, ◌≤◌, ◌<◌, Bool, true, false, ◌&&◌, List, [], ◌∷◌, ◌++◌, length, take, Option, Some, None, arith}
+use Rattle.std.proofs.Common.{◌≡◌, ◌≢◌, refl, sym, ◌∙◌, ap, subst, inl, inr, ℕ, ◌+◌, ◌≤◌, Bool, true, false, ◌&&◌, List, [], ◌∷◌, ◌++◌, length, take, Some, None, arith}
 use Rattle.std.specs.Prelude.{IsTrue, All, nat_le, bytes_eq, codes}
 use Rattle.std.proofs.lemmas.Bool.{and_parts, and_from, leb-true, le-leb, both_ways}
 use Rattle.std.proofs.lemmas.List.{take_all, length-take-le}
 use Rattle.std.proofs.lemmas.List.Elements.{All-cons}
 use Rattle.std.proofs.lemmas.Slice.Eq.{bytes_eq-Decides}
-use Rattle.eon_model.specs.Network.{Network}
 use Rattle.eon_model.specs.Services.{State}
-use Rattle.eon_model.specs.Legal.{Setup, Legal, is_legal}
+use Rattle.eon_model.specs.Legal.{Setup, Legal}
 use Rattle.eon_model.specs.Commands.{Command}
 use Rattle.eon_model.specs.CommandText.{command_text, is_command, IsLineOf}
 use Rattle.eon_model.specs.NetworkText.{is_setup}
 use Rattle.eon_model.specs.Replies.{Reply}
-use Rattle.eon_model.specs.Events.{Event}
 use Rattle.eon_model.specs.Step.{Outcome, Say, Change, SayPlan, outcome_of}
 use Rattle.eon_model.specs.Answers.{Answer, Answers, said, Gives, state_after}
 use Rattle.eon_model.specs.Answers as answers
 use Rattle.eon_model.specs.Run.{lines_of}
-use Rattle.eon_model.specs.Later.{Told, Now, Later, Tells, Missed, Answered, Untold, TellsLines, is_told, is_told_command, is_told_outcome, state_told, told_text, told_texts, BeginsToldLines, RunsSoFar}
+use Rattle.eon_model.specs.Later.{Told, Now, Tells, Missed, Answered, Untold, TellsLines, is_told, is_told_command, is_told_outcome, state_told, told_text, told_texts, BeginsToldLines, RunsSoFar}
 use Rattle.eon_model.specs.Spelling.{spaced}
 use Rattle.eon_model.specs.ReplyText.{old_leg_words}
 use Rattle.eon_model.proofs.SplitLaws.{split_by}

@@ -1,19 +1,18 @@
 -- How the parts of a call make up its end.
-use Rattle.std.proofs.Common.{◌≡◌, ◌≢◌, refl, sym, ◌∙◌, ap, subst, inl, inr, ℕ, ◌+◌, ◌≤◌, ◌<◌, Bool, true, false, List, [], ◌∷◌, ◌++◌, append_assoc, length, map, take, drop, get_or, Option, Some, None, Result, Ok, Err, arith}
-use Rattle.std.specs.Prelude.{◌⊎◌, ⊤, codes, ◌↔◌, bytes_eq, IsNone, IfSome, IsSomeAnd, replicate, if◌then◌else◌}
+use Rattle.std.proofs.Common.{◌≡◌, refl, sym, ◌∙◌, ap, subst, inl, inr, ℕ, ◌+◌, ◌<◌, true, false, List, [], ◌∷◌, ◌++◌, append_assoc, length, take, drop, Option, Some, None, Ok, arith}
+use Rattle.std.specs.Prelude.{◌⊎◌, IfSome, IsSomeAnd, replicate}
 use Rattle.std.specs.FinMap.{get}
 use Rattle.std.specs.Io.KnownBytes.{Keeps}
 use Rattle.std.proofs.lemmas.List.{take-append-drop, length-replicate}
 use Rattle.eon_model.specs.Legal.{Setup}
-use Rattle.eon_model.specs.Later.{net_later_line}
 use Rattle.plan_serve.specs.declared.status.Status.{Status}
 use Rattle.plan_serve.specs.declared.status.Status.TheVariants.{Done, Words, NetLater, ReadFault, Memory, WriteFault, InputLong}
 use Rattle.eon_outside.specs.Reading.{NamedFiles, Opens}
 use Rattle.eon_outside.specs.Writing.{AppendsPart}
 use Rattle.eon_outside.specs.WholeFile.{IsFile, IsLonger}
 use Rattle.plan_serve.specs.Files.{IsLeft, IsPlannedFile, IsPlannedText, IsUnplannedFile, longest_network}
-use Rattle.plan_serve.specs.Words.{Mode, Dry, mode_of, files_of}
-use Rattle.plan_serve.specs.Ends.{GivesLine, NetworkAt, StatesAt, OpenedAt, MayEnd, AnswersAll, StopsAtLong, StopsReading, StopsWriting, OverNetwork, FaultsReading, AtNetwork, AtOpening, InStream}
+use Rattle.plan_serve.specs.Words.{Mode, Dry, files_of}
+use Rattle.plan_serve.specs.Ends.{GivesLine, StatesAt, OpenedAt, MayEnd, StopsReading, FaultsReading, AtNetwork, AtOpening, InStream}
 use Rattle.plan_serve.specs.Session.{ServedAt}
 use Rattle.plan_serve.proofs.TellLaws.{run-Legal}
 use Rattle.plan_serve.specs.Parts.{ServeEnds, DryEnds}

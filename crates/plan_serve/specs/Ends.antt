@@ -1,5 +1,5 @@
 -- What a call of the planner read and wrote, for each status with which it ends.
-use Rattle.std.specs.Prelude.{◌≡◌, ◌≢◌, ◌⊎◌, ℕ, ◌<◌, ◌≤◌, ⊤, List, [], ◌∷◌, ◌++◌, length, take, Option, Some, None, All}
+use Rattle.std.specs.Prelude.{◌≡◌, ◌≢◌, ℕ, ◌<◌, ◌≤◌, ⊤, List, [], ◌∷◌, ◌++◌, length, take, Option, Some, None, All}
 use Rattle.std.specs.FinMap.{get}
 use Rattle.std.specs.Io.KnownBytes.{Appends, Keeps}
 use Rattle.eon_model.specs.Legal.{Setup, Legal}
@@ -7,11 +7,10 @@ use Rattle.eon_model.specs.Later.{RunsSoFar, BeginsRunSoFar}
 use Rattle.plan_serve.specs.declared.status.Status.{Status}
 use Rattle.plan_serve.specs.declared.status.Status.TheVariants.{Done, Words, NetLater, ReadFault, Memory, WriteFault, InputLong}
 use Rattle.eon_outside.specs.Reading.{NamedFiles}
-use Rattle.eon_outside.specs.Faults.{Rose}
 use Rattle.eon_outside.specs.WholeFile.{IsFile}
 use Rattle.plan_serve.specs.Files.{IsLeft, longest_stream, IsPlannedFile, IsUnplannedFile}
 use Rattle.plan_serve.specs.Lines.{whole_lines, states_told}
-use Rattle.plan_serve.specs.Words.{Mode, Dry, files_of}
+use Rattle.plan_serve.specs.Words.{Mode, Dry}
 
 -- ---- a line beside the replies
 

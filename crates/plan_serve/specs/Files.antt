@@ -1,6 +1,5 @@
 -- What the files say, where they are told.
-use Rattle.std.specs.Prelude.{◌≡◌, ◌⊎◌, ℕ, ◌<◌, ◌≤◌, ⊤, IsTrue, List, length, Option, Some, None}
-use Rattle.std.specs.FinMap.{get}
+use Rattle.std.specs.Prelude.{◌≡◌, ℕ, ◌≤◌, ⊤, IsTrue, List, length, Option, Some, None}
 use Rattle.eon_model.specs.Legal.{Setup}
 use Rattle.eon_model.specs.NetworkText.{IsNetworkTextOf}
 use Rattle.eon_model.specs.Later.{is_one_fibre}

@@ -1,5 +1,5 @@
 -- What the parts of a call come to.
-use Rattle.std.specs.Prelude.{◌≡◌, ◌≢◌, ◌⊎◌, ℕ, ⊤, List, [], ◌∷◌, ◌++◌, Option}
+use Rattle.std.specs.Prelude.{◌≡◌, ◌⊎◌, ℕ, ⊤, List, [], ◌∷◌, ◌++◌, Option}
 use Rattle.std.specs.Io.KnownBytes.{Keeps}
 use Rattle.eon_model.specs.Legal.{Setup}
 use Rattle.eon_model.specs.Later.{net_later_line}

@@ -5,10 +5,9 @@
 use eon_outside::{FileShelf, StdoutSink};
 use plan_serve::plan_main;
 use std::alloc::Global;
-use std::env;
-use std::io;
 use std::process::ExitCode;
 use std::rt::Env;
+use std::{env, io};
 
 /// There is no memory for the words.
 const NO_MEMORY: u8 = 6;

@@ -1,4 +1,4 @@
-use Rattle.std.proofs.Common.{◌≡◌, ◌∙◌, subst, ◌≤◌, arith}
+use Rattle.std.proofs.Common.{◌∙◌, subst, arith}
 use Rattle.eon_model.specs.Legal.{Setup}
 use Rattle.eon_outside.specs.declared.reading.Failed.{Failed}
 use Rattle.plan_serve.specs.Session.{ServedAt}

@@ -1,4 +1,4 @@
-use Rattle.std.proofs.Common.{◌≡◌, refl, sym, ◌∙◌, ap, ℕ, ◌+◌, ◌≤◌, List, [], ◌∷◌, ◌++◌, length, take, drop, arith}
+use Rattle.std.proofs.Common.{refl, sym, ◌∙◌, ap, ℕ, ◌+◌, List, [], ◌∷◌, ◌++◌, take, arith}
 use Rattle.std.proofs.lemmas.List.{take_rest}
 use Rattle.eon_outside.specs.declared.reading.Failed.{Failed}
 use Rattle.one_fibre.specs.Machine.{Planned}
