@@ -22,19 +22,32 @@ end
 NET
 awk -v n="$lines" 'BEGIN { for (i = 0; i < n; i++) printf "place s%d A B 100 bare ab %d\n", i, (i * 7) % 1000 - 500 }' >"$work/commands"
 
-"$top/eonplan" dry "$work/net" "$work/net" >/dev/null || true
+# The first call builds the program, where that is needed.
+"$top/eonplan" dry "$work/net" /dev/null
 measure() {
     local name=$1
     shift
     /usr/bin/env python3 - "$name" "$lines" "$work/out" "$@" <<'PY'
-import os, resource, subprocess, sys, time
+import subprocess, sys, time
+
+def peak_of(pid):
+    """The most memory that the process has held so far, in KiB."""
+    try:
+        with open(f"/proc/{pid}/status") as status:
+            return max(int(line.split()[1]) for line in status if line.startswith("VmHWM"))
+    except (OSError, ValueError):
+        return 0
+
 name, lines, out, *words = sys.argv[1:]
+peak = 0
 start = time.monotonic()
 with open(out, "wb") as sink:
-    status = subprocess.run(words, stdout=sink).returncode
+    process = subprocess.Popen(words, stdout=sink)
+    while process.poll() is None:
+        time.sleep(0.005)
+        peak = peak_of(process.pid) or peak
 spent = time.monotonic() - start
-peak = resource.getrusage(resource.RUSAGE_CHILDREN).ru_maxrss
-print(f"{name}: {int(lines) / spent:,.0f} lines/s, {spent:.2f} s, peak {peak / 1024:.1f} MiB, status {status}")
+print(f"{name}: {int(lines) / spent:,.0f} lines/s, {spent:.2f} s, peak {peak / 1024:.1f} MiB, status {process.returncode}")
 PY
 }
 measure "eonplan dry" "$top/eonplan" dry "$work/net" "$work/commands"
