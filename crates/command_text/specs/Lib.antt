@@ -1,0 +1,8 @@
+pub mod Reading
+pub mod Parts
+pub mod Lines
+pub mod Given
+pub mod Told
+pub mod Words
+pub mod Adding
+pub mod Laws

@@ -1,0 +1,21 @@
+//! Command lines. Reading a line gives its command, or the place from which on no line of the grammar goes
+//! so; printing a command gives its one line. A layer above uses `Command`, `read_command` and
+//! `print_command`, and the names of a fibre list by `FibreNames`.
+#![tactic(auto)]
+
+mod command;
+mod fibre_names;
+mod fields;
+pub mod laws;
+mod part;
+mod printing;
+mod reading;
+#[cfg(test)]
+mod tests;
+mod verb;
+
+pub use command::{BackWords, Command, LineFault};
+pub use eon_model::Class;
+pub use fibre_names::FibreNames;
+pub use printing::print_command;
+pub use reading::read_command;

@@ -1,0 +1,4 @@
+pub mod Parts
+pub mod Listed
+pub mod Asks
+pub mod Clashes

@@ -1,0 +1,207 @@
+//! Which service a leg disturbs.
+
+ghost use Rattle.std.specs.Prelude.{◌≡◌, not, ◌==◌};
+ghost use Rattle.std.specs.Option.{option_copied};
+ghost use Rattle.eon_model.specs.Grid.{units_of, overlaps, hull};
+ghost use Rattle.eon_model.specs.Lists.{has_number};
+ghost use Rattle.eon_model.specs.Route as routes;
+ghost use Rattle.eon_model.specs.Services.{drift_units, collides, holding_of, working_holding};
+ghost use Rattle.eon_model.specs.Legal as legal;
+ghost use Rattle.eon_model.specs.Names.{same_name};
+ghost use Rattle.eon_model.specs.Step.{clashes_with};
+ghost use Rattle.leg_state.specs.Clashes.{is_clear_apart, clashes_apart, clashes_of, first_clash_of};
+
+use crate::leg::{Leg, Path};
+use crate::service::Service;
+use crate::services::Services;
+use eon_base::name::Name;
+use net_graph::Route;
+use std::marker::Model;
+
+// The units from one to another, both of them too, wherever they lie.
+#[derive(Drop)]
+struct Span {
+    lo: i32,
+    hi: i32,
+}
+
+impl Model for Span {
+    ghost use Rattle.eon_model.specs.Grid.{Units};
+
+    ghost Value = { Units };
+
+    ghost view = { λ s. record { lo = s.lo; hi = s.hi } };
+}
+
+impl Span {
+    // The units of a slot.
+    fn of_slot(n: i16, m: u16) -> Span
+        ensures { result ≡ units_of (record { n = n; m = m }) }
+    {
+        let centre = i32::from(n);
+        let half = i32::from(m);
+        Span {
+            lo: centre - half,
+            hi: centre + half - 1,
+        }
+    }
+
+    // Whether some unit is in both.
+    fn overlaps(&self, other: &Span) -> bool
+        ensures { result ≡ overlaps self.now other.now }
+    {
+        self.lo <= other.hi && other.lo <= self.hi
+    }
+
+    // All units from the lowest to the highest of the two.
+    fn hull(&self, other: &Span) -> Span
+        ensures { result ≡ hull self.now other.now }
+    {
+        Span {
+            lo: self.lo.min(other.lo),
+            hi: self.hi.max(other.hi),
+        }
+    }
+}
+
+// What the path takes where it stands.
+fn path_span(path: &Path) -> Span
+    ensures { result ≡ units_of path.now.slot }
+{
+    Span::of_slot(path.slot.n(), path.slot.m())
+}
+
+// What the channel takes: where it stands, or all that it drifts over.
+fn work_span(leg: &Leg) -> Span
+    ensures { result ≡ drift_units leg.now.work.slot leg.now.to }
+{
+    let work = &leg.work;
+    let here = path_span(work);
+    match leg.to {
+        Some(to) => here.hull(&Span::of_slot(to, work.slot.m())),
+        None => here,
+    }
+}
+
+// Whether the fibre is one of the route's.
+fn has_fibre(route: &Route, fibre: u8) -> bool
+    ensures { result ≡ has_number route.now.fibres fibre }
+{
+    route.fibres().contains(&fibre)
+}
+
+// Whether one fibre is in both routes.
+fn share_fibre(p: &Route, q: &Route) -> bool
+    ensures { result ≡ routes.share_fibre p.now q.now }
+{
+    p.fibres().iter().any(|fibre| has_fibre(q, *fibre))
+}
+
+// Whether these units of two routes overlap on a common fibre.
+fn collide(p: &Route, p_units: &Span, q: &Route, q_units: &Span) -> bool
+    ensures { result ≡ collides (record { route = p.now; units = p_units.now }) (record { route = q.now; units = q_units.now }) }
+{
+    p_units.overlaps(q_units) && share_fibre(p, q)
+}
+
+// Whether the channel of p overlaps neither the channel nor the backup of q.
+fn work_is_clear(p: &Leg, q: &Leg) -> bool
+    ensures { result ≡ legal.work_is_clear p.now q.now }
+{
+    let units = work_span(p);
+    let route = &p.work.route;
+    if collide(route, &units, &q.work.route, &work_span(q)) {
+        return false;
+    }
+    match &q.back {
+        Some(back) => !collide(route, &units, &back.route, &path_span(back)),
+        None => true,
+    }
+}
+
+// Whether the backups of p and q overlap.
+fn backups_collide(p: &Leg, q: &Leg) -> bool
+    ensures { result ≡ legal.backups_collide p.now q.now }
+{
+    let Some(first) = &p.back else {
+        return false;
+    };
+    let Some(second) = &q.back else {
+        return false;
+    };
+    collide(
+        &first.route,
+        &path_span(first),
+        &second.route,
+        &path_span(second),
+    )
+}
+
+// Whether the legs of two services are clear.
+fn are_clear(p: &Leg, q: &Leg) -> bool
+    ensures { result ≡ is_clear_apart p.now q.now }
+{
+    if !work_is_clear(p, q) || !work_is_clear(q, p) {
+        return false;
+    }
+    if !backups_collide(p, q) {
+        return true;
+    }
+    let work = &p.work;
+    let other = &q.work;
+    !work.route.risk().meets(&other.route.risk())
+}
+
+// Whether some leg of the service is not clear with this leg of another one.
+fn disturbs(leg: &Leg, service: &Service) -> bool
+    ensures { result ≡ clashes_apart leg.now service.now }
+{
+    if !are_clear(leg, &service.leg) {
+        return true;
+    }
+    match &service.next {
+        Some(next) => !are_clear(leg, next),
+        None => false,
+    }
+}
+
+// Whether the service has this name.
+fn has_name(service: &Service, name: &Name) -> bool
+    ensures { result ≡ same_name service.now.name name.now }
+{
+    service.name == *name
+}
+
+// Whether the service is not the owner of the leg, and clashes with it.
+fn disturbs_other(leg: &Leg, owner: &Name, service: &Service) -> bool
+    ensures { result ≡ clashes_with (record { owner = owner.now; leg = leg.now }) service.now }
+{
+    if has_name(service, owner) {
+        return false;
+    }
+    disturbs(leg, service)
+}
+
+// Whether the service clashes with the leg, of this owner or of no one.
+fn clashes(leg: &Leg, owner: Option<&Name>, service: &Service) -> bool
+    ensures { result ≡ clashes_of leg.now (option_copied owner.entry) service.now }
+{
+    match owner {
+        Some(name) => disturbs_other(leg, name, service),
+        None => disturbs(leg, service),
+    }
+}
+
+/// The name of the first service in order, other than the owner, one of whose legs is not clear with this
+/// leg; None exactly where all are. Without an owner the leg is of no service of the list.
+pub fn first_clash(services: &Services, leg: &Leg, owner: Option<&Name>) -> Option<Name>
+    ensures { result ≡ first_clash_of services.now.list leg.now (option_copied owner.entry) }
+{
+    for i in 0..services.len() {
+        let service = services.at(i);
+        if clashes(leg, owner, service) {
+            return Some(service.name);
+        }
+    }
+    None
+}

@@ -1,0 +1,95 @@
+//! Paths and legs.
+
+ghost use Rattle.std.specs.Prelude.{◌≡◌, Some, None, IsTrue};
+ghost use Rattle.eon_model.specs.Changes.{path_moved, drifting_to, leg_at_target, backup_at};
+ghost use Rattle.leg_state.specs.Asks.{can_stand, target_can_stand, backup_can_stand};
+
+use flex_grid::slot::Slot;
+use net_graph::Route;
+use std::marker::Model;
+
+/// A route with one slot, the same on each of its fibres.
+#[derive(Drop)]
+pub struct Path {
+    pub route: Route,
+    pub slot: Slot,
+}
+
+impl Model for Path {
+    ghost use Rattle.eon_model.specs.Services as model;
+    ghost use Rattle.eon_model.specs.Codes.{path_code};
+
+    ghost Value = { model.Path };
+
+    ghost coded = { path_code };
+
+    ghost view = { λ p. record { route = p.route; slot = p.slot } };
+}
+
+impl Path {
+    // The slot of the same width at this centre.
+    pub(crate) fn move_to(&mut self, n: i16)
+        requires { IsTrue (can_stand self.old n) }
+        ensures { self.new ≡ path_moved self.old n }
+    {
+        if let Some(slot) = self.slot.moved(n) {
+            self.slot = slot;
+        }
+    }
+}
+
+/// What carries a service: a working path, the centre that its channel drifts to, in units of 6.25 GHz,
+/// while it drifts, and a backup path for a protected service.
+#[derive(Drop)]
+pub struct Leg {
+    pub work: Path,
+    pub to: Option<i16>,
+    pub back: Option<Path>,
+}
+
+impl Model for Leg {
+    ghost use Rattle.eon_model.specs.Services as model;
+    ghost use Rattle.eon_model.specs.Codes.{leg_code};
+
+    ghost Value = { model.Leg };
+
+    ghost coded = { leg_code };
+
+    ghost view = { λ l. record { work = l.work; to = l.to; back = l.back } };
+}
+
+impl Leg {
+    // The channel drifts to the centre.
+    pub(crate) fn drift_to(&mut self, to: i16)
+        ensures { self.new ≡ drifting_to to self.old }
+    {
+        self.to = Some(to);
+    }
+
+    // The channel stands where it drifts to.
+    pub(crate) fn end_drift(&mut self)
+        requires { IsTrue (target_can_stand self.old) }
+        ensures { self.new ≡ leg_at_target self.old }
+    {
+        if let Some(to) = self.to.take() {
+            self.work.move_to(to);
+        }
+    }
+
+    // The channel drifts no more, and stands where it stood.
+    pub(crate) fn stop_drift(&mut self)
+        ensures { self.new ≡ record self.old { to = None } }
+    {
+        self.to = None;
+    }
+
+    // The backup, if there is one, stands at the centre.
+    pub(crate) fn move_back(&mut self, n: i16)
+        requires { IsTrue (backup_can_stand self.old n) }
+        ensures { self.new ≡ backup_at n self.old }
+    {
+        if let Some(back) = &mut self.back {
+            back.move_to(n);
+        }
+    }
+}

@@ -1,0 +1,23 @@
+//! The live services and what they hold: paths, legs, and the list of services in order of admission. The
+//! layers above change the list by the calls of `Services`, ask `first_clash` which service a leg disturbs,
+//! and cite the laws of `laws`.
+#![tactic(auto)]
+
+pub mod clash;
+pub mod fibre_numbers;
+pub mod laws;
+pub mod leg;
+pub mod pair;
+pub mod service;
+pub mod services;
+
+pub use clash::first_clash;
+pub use eon_base::name::Name;
+pub use eon_model::Class;
+pub use fibre_numbers::FibreNumbers;
+pub use flex_grid::slot::Slot;
+pub use leg::{Leg, Path};
+pub use net_graph::Route;
+pub use pair::{Pair, Spare};
+pub use service::Service;
+pub use services::Services;

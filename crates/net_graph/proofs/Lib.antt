@@ -1,0 +1,10 @@
+pub mod WordLemmas
+pub mod NameOrder
+pub mod RowLemmas
+pub mod GraphParts
+pub mod BuildLemmas
+pub mod WalkLemmas
+pub mod RouteSums
+pub mod FaultLemmas
+pub mod GroupLemmas
+pub mod JoinLemmas

@@ -1,0 +1,15 @@
+//! The network as a planner knows it: named nodes, fibres and groups by number, sets of fibres and of
+//! risks, and routes with their length and risk. The layer above builds a `Net` line by line with a
+//! `NetBuilder`, asks it by number and by name, and makes a `Route` of each list of fibres that is one.
+#![tactic(auto)]
+
+pub mod graph;
+pub mod route;
+pub mod sets;
+#[cfg(test)]
+mod tests;
+
+pub use eon_model::Class;
+pub use graph::{Fibre, GraphFault, Net, NetBuilder};
+pub use route::Route;
+pub use sets::{FibreSet, RiskSet};
