@@ -1,4 +1,4 @@
-//! Names and whole numbers, as they are read from bytes and spelled again. The layers above may use
+//! Names and whole numbers, as they are read from bytes and spelled again, and counts of steps. The layers above may use
 //! each type and call of `name`, `number` and `spelling`, and cite the laws of `laws`.
 #![tactic(auto)]
 
@@ -6,3 +6,4 @@ pub mod laws;
 pub mod name;
 pub mod number;
 pub mod spelling;
+pub mod steps;

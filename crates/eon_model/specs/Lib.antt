@@ -44,6 +44,7 @@ pub mod Readings
 pub mod JournalFault
 pub mod Laws
 pub mod Codes
+pub mod SetupCodes
 pub mod EventFault
 pub mod Handover
 pub mod Places

@@ -1,10 +1,10 @@
 -- The first service that clashes, as a search from the left.
 use Rattle.std.proofs.Common.{◌≡◌, refl, sym, ◌∙◌, ap, ℕ, zero, suc, ◌≤◌, arith, Bool, true, false, cond, not, ◌&&◌, ◌||◌, List, [], ◌∷◌, length, drop, find, slice_get, map, Option, Some, None}
-use Rattle.std.specs.Option.{option_map, option_to_list}
+use Rattle.std.specs.Option.{option_map}
 use Rattle.std.specs.List.{list_all}
 use Rattle.eon_model.specs.Names.{Name, same_name}
 use Rattle.eon_model.specs.Route.{share_group}
-use Rattle.eon_model.specs.Services.{Leg, Service, State, OwnedLeg, legs_of, owned_legs}
+use Rattle.eon_model.specs.Services.{Leg, Service, State, legs_of, owned_legs}
 use Rattle.eon_model.specs.Legal.{is_clear, work_is_clear, backups_collide}
 use Rattle.eon_model.specs.Step.{clashes_with}
 use Rattle.eon_model.proofs.NameLaws.{names_equal}

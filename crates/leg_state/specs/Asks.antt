@@ -1,8 +1,8 @@
 -- What the changes of one service ask of it.
-use Rattle.std.specs.Prelude.{ℕ, ℤ, Bool, false, ◌&&◌, not, is_some}
+use Rattle.std.specs.Prelude.{ℤ, Bool, false, ◌&&◌, not, is_some}
 use Rattle.std.specs.List.{list_all}
 use Rattle.std.specs.Option.{option_map_or, option_to_list}
-use Rattle.eon_model.specs.Grid.{Slot, moved_to, is_slot}
+use Rattle.eon_model.specs.Grid.{moved_to, is_slot}
 use Rattle.eon_model.specs.Names.{Name}
 use Rattle.eon_model.specs.Services.{Path, Leg, Service, State, is_drifting, is_making, is_moving, service_of}
 

@@ -1,5 +1,5 @@
 -- Codes of the candidates that a pair stands for, and which numbers are kept in a fixed buffer.
-use Rattle.std.specs.Prelude.{◌≡◌, ℕ, ◌≤◌, ◌<◌, All, List, length, take, Option, refl}
+use Rattle.std.specs.Prelude.{ℕ, ◌≤◌, ◌<◌, All, List, length, Option, refl}
 use Rattle.std.specs.Coded.{Coded, code_by, coded×, coded_ℕ, coded_option}
 use Rattle.eon_model.specs.Route.{Route}
 use Rattle.eon_model.specs.Codes.{route_code}

@@ -1,4 +1,9 @@
 //! Which service a leg disturbs.
+//!
+//! A working path holds the units where it stands, or all that it drifts over; a backup holds those where
+//! it stands. The legs of two services are clear where no working path of one overlaps a path of the
+//! other on a common fibre, and where their backups overlap only if no one failure takes both of their
+//! working routes down.
 
 ghost use Rattle.std.specs.Prelude.{◌≡◌, not, ◌==◌};
 ghost use Rattle.std.specs.Option.{option_copied};
@@ -192,8 +197,9 @@ fn clashes(leg: &Leg, owner: Option<&Name>, service: &Service) -> bool
     }
 }
 
-/// The name of the first service in order, other than the owner, one of whose legs is not clear with this
-/// leg; None exactly where all are. Without an owner the leg is of no service of the list.
+/// The name of the first service in order of admission, other than the owner of the leg, one of whose
+/// legs is not clear with this leg; None exactly where all are. Without an owner the leg is of no service of
+/// the list. It takes no memory.
 pub fn first_clash(services: &Services, leg: &Leg, owner: Option<&Name>) -> Option<Name>
     ensures { result ≡ first_clash_of services.now.list leg.now (option_copied owner.entry) }
 {

@@ -27,7 +27,7 @@ impl Model for FibreNumbers {
 }
 
 impl FibreNumbers {
-    /// These numbers, which are at most 63, each below 128.
+    /// These numbers in this order. There are at most 63 of them, each below 128.
     pub fn make(fibres: &[u8]) -> FibreNumbers
         requires { AreFibreNumbers fibres.now }
         ensures { result ≡ fibres.now }

@@ -8,10 +8,13 @@ use flex_grid::slot::Slot;
 use net_graph::Route;
 use std::marker::Model;
 
-/// A route with one slot, the same on each of its fibres.
+/// A route with one slot, the same on each of its fibres. Where it stands it holds the units of the slot
+/// on all of them.
 #[derive(Drop)]
 pub struct Path {
+    /// The fibres that it takes, with their length and their risk.
     pub route: Route,
+    /// Its centre and its width.
     pub slot: Slot,
 }
 
@@ -38,12 +41,16 @@ impl Path {
     }
 }
 
-/// What carries a service: a working path, the centre that its channel drifts to, in units of 6.25 GHz,
-/// while it drifts, and a backup path for a protected service.
+/// What carries a service: a working path, the centre that its channel drifts to, while it drifts, and a
+/// backup path for a protected service.
 #[derive(Drop)]
 pub struct Leg {
+    /// The path of the channel, with the slot in which it stands or from which it drifts.
     pub work: Path,
+    /// The centre that the channel drifts to, in units of 6.25 GHz from 193.1 THz. While it drifts it holds
+    /// all units from the lowest to the highest of its two slots.
     pub to: Option<i16>,
+    /// The path that a protected service takes where its working path fails.
     pub back: Option<Path>,
 }
 

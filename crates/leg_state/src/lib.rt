@@ -5,11 +5,17 @@
 
 pub mod clash;
 pub mod fibre_numbers;
+#[cfg(test)]
+mod fixtures;
 pub mod laws;
 pub mod leg;
+#[cfg(test)]
+mod move_tests;
 pub mod pair;
 pub mod service;
 pub mod services;
+#[cfg(test)]
+mod tests;
 
 pub use clash::first_clash;
 pub use eon_base::name::Name;

@@ -3,10 +3,12 @@
 use net_graph::Route;
 use std::marker::Model;
 
-/// A backup route with the slot width that the rate needs on it, times 12.5 GHz.
+/// A backup route with the slot width that the rate needs on it.
 #[derive(Drop)]
 pub struct Spare {
+    /// The fibres of the backup.
     pub route: Route,
+    /// The width of its slot, times 12.5 GHz.
     pub m: u16,
 }
 
@@ -21,12 +23,15 @@ impl Model for Spare {
     ghost view = { λ r. record { route = r.route; m = r.m } };
 }
 
-/// A working route with the slot width that the rate needs on it, times 12.5 GHz, and a backup route for a
-/// protected service.
+/// A candidate: a working route with the slot width that the rate needs on it, and a backup route for a
+/// protected service. It says nothing of where the slots stand.
 #[derive(Drop)]
 pub struct Pair {
+    /// The fibres of the working path.
     pub work: Route,
+    /// The width of its slot, times 12.5 GHz.
     pub work_m: u16,
+    /// The backup, for a protected service.
     pub back: Option<Spare>,
 }
 

@@ -1,4 +1,4 @@
-//! Services.
+//! One live service and its moves.
 
 ghost use Rattle.std.specs.Prelude.{◌≡◌, IsTrue};
 ghost use Rattle.eon_model.specs.Changes.{drifting_to, with_leg, with_next, finished, undone, backup_at};
@@ -9,16 +9,23 @@ use eon_base::name::Name;
 use eon_model::Class;
 use std::marker::Model;
 
-/// A live service between two nodes, told by their numbers, at a rate in Gbit/s. `leg` carries it; while
-/// it is making, `next` is the new leg beside the old one.
+/// A live service between two nodes. It is at rest, or it drifts (`leg` has a target), or it is making
+/// (`next` stands beside `leg`).
 #[derive(Drop)]
 pub struct Service {
+    /// The name under which it was admitted.
     pub name: Name,
+    /// The number of the node where it begins.
     pub src: u8,
+    /// The number of the node where it ends.
     pub dst: u8,
+    /// Its rate in Gbit/s.
     pub rate: u32,
+    /// Whether it is protected by a backup.
     pub class: Class,
+    /// What carries it; the old leg while it is making.
     pub leg: Leg,
+    /// The new leg, while it is making.
     pub next: Option<Leg>,
 }
 

@@ -111,7 +111,8 @@ impl Services {
         }
     }
 
-    /// The service of this name, which is at rest and can stand at `to`, drifts there.
+    /// The service of this name, which is at rest and whose channel can stand at the centre `to`, in units
+    /// of 6.25 GHz, drifts there.
     pub fn set_to(&mut self, name: &Name, to: i16)
         requires { IsTrue (has_service (may_drift to) self.old.list name.now) }
         ensures list { self.new.list ≡ change_service name.now (with_leg (drifting_to to)) self.old.list }
@@ -123,8 +124,8 @@ impl Services {
         }
     }
 
-    /// Ends the move of the service of this name, which moves in one way: it stands at the centre that it
-    /// drifts to, where it can stand, or the new leg alone is left.
+    /// Ends the move of the service of this name, which drifts or is making, not both: it stands at the
+    /// centre that it drifts to, where it can stand, or the new leg alone is left.
     pub fn end_move(&mut self, name: &Name)
         requires { IsTrue (has_service may_finish self.old.list name.now) }
         ensures list { self.new.list ≡ change_service name.now finished self.old.list }
@@ -136,8 +137,8 @@ impl Services {
         }
     }
 
-    /// Gives up the move of the service of this name, which moves in one way: the target, or the new leg,
-    /// goes.
+    /// Gives up the move of the service of this name, which drifts or is making, not both: the target, or
+    /// the new leg, goes, and it is carried as before the move.
     pub fn undo_move(&mut self, name: &Name)
         requires { IsTrue (has_service may_go_back self.old.list name.now) }
         ensures list { self.new.list ≡ change_service name.now undone self.old.list }
@@ -161,7 +162,8 @@ impl Services {
         }
     }
 
-    /// Puts the backup of the service of this name, which is at rest and has one that can stand at `n`, there.
+    /// Puts the backup of the service of this name, which is at rest and has one that can stand at the
+    /// centre `n`, in units of 6.25 GHz, there.
     pub fn set_back(&mut self, name: &Name, n: i16)
         requires { IsTrue (has_service (may_refit n) self.old.list name.now) }
         ensures list { self.new.list ≡ change_service name.now (with_leg (backup_at n)) self.old.list }

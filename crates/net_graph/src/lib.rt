@@ -5,6 +5,7 @@
 
 pub mod graph;
 pub mod route;
+pub mod route_list;
 pub mod sets;
 #[cfg(test)]
 mod tests;
@@ -12,4 +13,5 @@ mod tests;
 pub use eon_model::Class;
 pub use graph::{Fibre, GraphFault, Net, NetBuilder};
 pub use route::Route;
+pub use route_list::RouteList;
 pub use sets::{FibreSet, RiskSet};

@@ -1,8 +1,13 @@
 pub mod AnswerLaws
+pub mod DecideLaws
 pub mod EndLaws
 pub mod FeedLaws
 pub mod KeptLaws
 pub mod LineLaws
+pub mod MarkLaws
+pub mod QuitLaws
+pub mod ReplyLaws
+pub mod RunLaws
 pub mod ServeLaws
 pub mod TellLaws
 pub mod TopLaws

@@ -1,19 +1,23 @@
 -- What was read of a stream and answered so far, and the run over it.
-use Rattle.std.proofs.Common.{◌≡◌, refl, sym, ◌∙◌, ap, subst, ℕ, ◌+◌, List, [], ◌++◌, append_assoc, length, length-append, take, Option, Some, None}
-use Rattle.std.specs.Prelude.{IsTrue}
-use Rattle.std.specs.Io.KnownBytes.{Consumes, Keeps, IsAtEnd}
+use Rattle.std.proofs.Common.{◌≡◌, refl, sym, ◌∙◌, ap, subst, ℕ, ◌+◌, Bool, true, List, [], ◌∷◌, ◌++◌, append_assoc, length, length-append, take, Option, Some, None}
+use Rattle.std.specs.Prelude.{IsTrue, MatchBool}
+use Rattle.std.specs.Io.KnownBytes.{Appends, Consumes, Keeps, IsAtEnd}
 use Rattle.eon_model.specs.Services.{State}
-use Rattle.eon_model.specs.Legal.{Setup}
+use Rattle.eon_model.specs.Legal.{Setup, Legal}
+use Rattle.eon_model.specs.NetworkText.{is_setup}
 use Rattle.eon_model.specs.Run.{lines_of}
-use Rattle.eon_model.specs.Later.{TellsLines, told_texts, BeginsToldLines}
+use Rattle.eon_model.specs.Later.{Told, Tells, TellsLines, told_text, told_texts, state_told, state_after_told, BeginsToldLines}
+use Rattle.eon_model.proofs.BeginLaws.{nothing-told}
+use Rattle.plan_core.specs.Built.{is_built}
 use Rattle.plan_serve.specs.Files.{IsLeft}
 use Rattle.plan_serve.specs.Lines.{has_no_end, most_kept}
 use Rattle.plan_serve.specs.Ends.{Serves, Begins}
-use Rattle.plan_serve.specs.Session.{AreAnswered, Breaks, FeedsAll}
-use Rattle.plan_serve.proofs.AnswerLaws.{breaks_more, BreaksIn-begins}
+use Rattle.plan_serve.specs.Session.{AreAnswered, Comes, Quits, Breaks, FeedsAll}
 use Rattle.plan_serve.proofs.LineLaws.{no_text_more}
+use Rattle.plan_serve.proofs.MarkLaws.{numbers_marked, Agrees, agrees_marked}
+use Rattle.plan_serve.proofs.RunLaws.{told_texts-append, Legal-none, marked-legal, tells_all, tells_then, begins_then}
+use Rattle.plan_serve.proofs.TellLaws.{broken_line}
 use Rattle.plan_serve.proofs.FeedLaws.{feeds_none, feeds_more}
-use Rattle.plan_serve.proofs.TellLaws.{told_texts-begins}
 
 -- ---- bytes read
 
@@ -65,39 +69,98 @@ left_ends (Some left) e = e
 
 -- ---- runs
 
+-- all lines are answered
 pub serves_lines : (setup : Setup) (s : State) (bytes : List ℕ) (lines : List (List ℕ)) (p q : Option (List ℕ)) →
     lines_of bytes ≡ lines → AreAnswered setup [] s lines p q → Serves setup bytes p q
-serves_lines setup s bytes lines p q is h = record {
-  missed = [];
-  output = told_texts setup [] h.told;
-  run = record {
-    told = h.told;
-    tells = subst (λ (v : List (List ℕ)). TellsLines setup [] 1 [] v h.told) (sym is) (h.tells 1);
-    is = refl;
-  };
-  given = h.given;
-}
+serves_lines setup s bytes lines p q is h =
+    let missed = numbers_marked 1 h.marks in record {
+      missed = missed;
+      output = told_texts setup [] h.told;
+      run = record {
+        told = h.told;
+        tells = subst (λ (v : List (List ℕ)). TellsLines setup is_built missed 1 [] v h.told) (sym is)
+            (tells_all setup missed 1 [] lines h.marks h.told h.tells (agrees_marked 1 h.marks));
+        is = refl;
+      };
+      given = h.given;
+    }
 
+-- the text of the answers before the last, and that of the last
+last_text : (setup : Setup) (here : State) (text : List ℕ) (told : List Told) (last : Told) →
+    here ≡ state_after_told setup.network [] told → text ≡ told_texts setup [] told →
+    text ++ told_text setup here last ≡ told_texts setup [] (told ++ last ∷ [])
+last_text setup here text told last state is =
+    ap (λ (v : List ℕ). v ++ told_text setup here last) is
+    ∙ ap (λ (v : State). told_texts setup [] told ++ told_text setup v last) state
+    ∙ ap (λ (v : List ℕ). told_texts setup [] told ++ v)
+    (sym (no_text_more (told_text setup (state_after_told setup.network [] told) last)))
+    ∙ sym (told_texts-append setup [] told (last ∷ []))
+
+-- all lines up to `quit` are answered
+pub serves_quit : (setup : Setup) (bytes : List ℕ) (lines others : List (List ℕ)) (p q : Option (List ℕ)) →
+    lines_of bytes ≡ lines ++ others → Quits setup [] lines p q → Serves setup bytes p q
+serves_quit setup bytes lines others p q is h =
+    let c = h.comes in
+    let missed = numbers_marked 1 (c.marks ++ h.missed ∷ []) in
+    let told = c.told ++ h.last ∷ [] in
+    let after = state_after_told setup.network [] c.told in
+    let whole : lines_of bytes ≡ c.done ++ h.line ∷ (c.more ++ others) =
+    is ∙ ap (λ (v : List (List ℕ)). v ++ others) c.whole ∙ append_assoc c.done (h.line ∷ c.more) others in record {
+      missed = missed;
+      output = told_texts setup [] told;
+      run = record {
+        told = told;
+        tells = subst (λ (v : List (List ℕ)). TellsLines setup is_built missed 1 [] v told) (sym whole)
+            (tells_then setup missed 1 [] c.done (h.line ∷ (c.more ++ others)) c.marks (h.missed ∷ []) c.told
+            (h.last ∷ []) c.tells (agrees_marked 1 (c.marks ++ h.missed ∷ []))
+            (λ n agrees. (
+              subst (λ (b : Bool). Tells setup is_built after h.line b h.last) (sym agrees.0)
+                  (subst (λ (v : State). Tells setup is_built v h.line h.missed h.last) c.state c.tells_last),
+              subst (λ (b : Bool). MatchBool b (◌≡◌ {A = List Told} [] [])
+                  (TellsLines setup is_built missed (n + 1) (state_told setup.network after h.last) (c.more ++ others) []))
+                  (sym h.quit) refl,
+            )));
+        is = refl;
+      };
+      given = subst (λ (v : List ℕ). Appends p q v) (last_text setup h.here h.text c.told h.last c.state c.is) h.given;
+    }
+
+-- the lines so far are answered, whatever follows
 pub begins_lines : (setup : Setup) (s : State) (bytes : List ℕ) (lines more : List (List ℕ))
-    (p q : Option (List ℕ)) → lines_of bytes ≡ lines ++ more → AreAnswered setup [] s lines p q →
-    Begins setup bytes p q
-begins_lines setup s bytes lines more p q is h = (
-  [],
-  told_texts setup [] h.told,
-  subst (λ (v : List (List ℕ)). BeginsToldLines setup [] 1 [] v (told_texts setup [] h.told)) (sym is)
-      (told_texts-begins setup 1 [] lines more h.told (h.tells 1)),
-  h.given,
-)
+    (p q : Option (List ℕ)) → is_setup setup ≡ true → lines_of bytes ≡ lines ++ more →
+    AreAnswered setup [] s lines p q → Begins setup bytes p q
+begins_lines setup s bytes lines more p q ok is h =
+    let missed = numbers_marked 1 (h.marks ++ []) in
+    let part = told_texts setup [] h.told ++ [] in (
+      missed,
+      part,
+      subst (λ (v : List (List ℕ)). BeginsToldLines setup is_built missed 1 [] v part) (sym is)
+          (begins_then setup missed 1 [] lines more h.marks [] h.told [] h.tells (agrees_marked 1 (h.marks ++ []))
+          (λ n agrees. nothing-told setup is_built missed n (state_after_told setup.network [] h.told) more ok
+          (marked-legal setup [] lines h.marks h.told ok (Legal-none setup) h.tells) agrees)),
+      subst (λ (v : List ℕ). Appends p q v) (sym (no_text_more (told_texts setup [] h.told))) h.given,
+    )
 
-pub begins_broken : (setup : Setup) (bytes : List ℕ) (lines more : List (List ℕ)) (p q : Option (List ℕ)) →
-    lines_of bytes ≡ lines ++ more → Breaks setup [] lines p q → Begins setup bytes p q
-begins_broken setup bytes lines more p q is h =
-    let k = breaks_more setup [] lines more p q h in (
-      [],
-      k.part,
-      subst (λ (v : List (List ℕ)). BeginsToldLines setup [] 1 [] v k.part) (sym is)
-          (BreaksIn-begins setup 1 [] (lines ++ more) k.part k.breaks),
-      k.given,
+-- writing broke off in one of the lines, whatever follows
+pub begins_broken : (setup : Setup) (bytes : List ℕ) (lines others : List (List ℕ)) (p q : Option (List ℕ)) →
+    is_setup setup ≡ true → lines_of bytes ≡ lines ++ others → Breaks setup [] lines p q → Begins setup bytes p q
+begins_broken setup bytes lines others p q ok is h =
+    let c = h.comes in
+    let legal = marked-legal setup [] c.done c.marks c.told ok (Legal-none setup) c.tells in
+    let broken = broken_line setup h.here h.line h.part h.rest h.missed h.last ok
+    (subst (λ (v : State). Legal setup v) (sym c.state) legal) c.tells_last h.some h.is in
+    let missed = numbers_marked 1 (c.marks ++ broken.counts ∷ []) in
+    let part = told_texts setup [] c.told ++ h.part in
+    let whole : lines_of bytes ≡ c.done ++ h.line ∷ (c.more ++ others) =
+    is ∙ ap (λ (v : List (List ℕ)). v ++ others) c.whole ∙ append_assoc c.done (h.line ∷ c.more) others in (
+      missed,
+      part,
+      subst (λ (v : List (List ℕ)). BeginsToldLines setup is_built missed 1 [] v part) (sym whole)
+          (begins_then setup missed 1 [] c.done (h.line ∷ (c.more ++ others)) c.marks (broken.counts ∷ []) c.told h.part
+          c.tells (agrees_marked 1 (c.marks ++ broken.counts ∷ []))
+          (λ n agrees. subst (λ (v : State). BeginsToldLines setup is_built missed n v (h.line ∷ (c.more ++ others))
+          h.part) c.state (broken.begins missed n (c.more ++ others) agrees.0 agrees.1))),
+      subst (λ (v : List ℕ). Appends p q v) (ap (λ (v : List ℕ). v ++ h.part) c.is) h.given,
     )
 
 -- ---- so far

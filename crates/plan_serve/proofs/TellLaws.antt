@@ -1,188 +1,201 @@
--- What is told of one line: there is always something, and it keeps states legal.
-use Rattle.std.proofs.Common.{◌≡◌, ◌≢◌, refl, sym, ◌∙◌, ap, subst, inl, inr, ℕ, ◌+◌, ◌≤◌, Bool, true, false, ◌&&◌, List, [], ◌∷◌, ◌++◌, length, take, Some, None, arith}
-use Rattle.std.specs.Prelude.{IsTrue, All, nat_le, bytes_eq, codes}
-use Rattle.std.proofs.lemmas.Bool.{and_parts, and_from, leb-true, le-leb, both_ways}
-use Rattle.std.proofs.lemmas.List.{take_all, length-take-le}
-use Rattle.std.proofs.lemmas.List.Elements.{All-cons}
-use Rattle.std.proofs.lemmas.Slice.Eq.{bytes_eq-Decides}
+-- What is told of one line.
+use Rattle.std.proofs.Common.{◌≡◌, ◌≢◌, refl, sym, ◌∙◌, ap, subst, ◌⊎◌, inl, inr, ℕ, ◌+◌, ◌≤◌, Bool, true, false, List, [], ◌∷◌, ◌++◌, length, take, Some, None, arith}
+use Rattle.std.specs.Prelude.{IsTrue, MatchBool, nat_le, codes, ◌==◌}
+use Rattle.std.proofs.lemmas.Bool.{cases_Bool, eqb-true, eqb-false, leb-true, le-leb, both_ways, false≢true}
+use Rattle.std.proofs.lemmas.List.{take_all, length-take-le, append-nil}
+use Rattle.eon_model.specs.Lists.{has_number}
 use Rattle.eon_model.specs.Services.{State}
 use Rattle.eon_model.specs.Legal.{Setup, Legal}
-use Rattle.eon_model.specs.Commands.{Command}
-use Rattle.eon_model.specs.CommandText.{command_text, is_command, IsLineOf}
 use Rattle.eon_model.specs.NetworkText.{is_setup}
+use Rattle.eon_model.specs.Commands.{Command}
+use Rattle.eon_model.specs.CommandText.{IsLineOf}
 use Rattle.eon_model.specs.Replies.{Reply}
-use Rattle.eon_model.specs.Step.{Outcome, Say, Change, SayPlan, outcome_of}
-use Rattle.eon_model.specs.Answers.{Answer, Answers, said, Gives, state_after}
+use Rattle.eon_model.specs.Answers.{Answer, Answers, Long, Fault, Missed, said, is_quit}
 use Rattle.eon_model.specs.Answers as answers
-use Rattle.eon_model.specs.Run.{lines_of}
-use Rattle.eon_model.specs.Later.{Told, Now, Tells, Missed, Answered, Untold, TellsLines, is_told, is_told_command, is_told_outcome, state_told, told_text, told_texts, BeginsToldLines, RunsSoFar}
-use Rattle.eon_model.specs.Spelling.{spaced}
-use Rattle.eon_model.specs.ReplyText.{old_leg_words}
-use Rattle.eon_model.proofs.SplitLaws.{split_by}
-use Rattle.eon_model.proofs.CommandTextLaws.{command_read, line-read}
-use Rattle.eon_model.proofs.StepLaws.{answer-Legal}
-use Rattle.eon_model.proofs.LegalLaws.{Legal-from_parts}
-use Rattle.plan_serve.specs.Lines.{states_told, most_kept}
+use Rattle.eon_model.specs.Run.{IsPrefix}
+use Rattle.eon_model.specs.Later.{Told, Now, Tells, Answered, Untold, state_told, told_text, EndsInsideTold, BeginsTold, BeginsToldLines}
+use Rattle.eon_model.proofs.RunLaws.{Answers-unique}
+use Rattle.eon_model.proofs.BeginRunLaws.{MissesNoneFrom}
+use Rattle.eon_model.proofs.BeginLaws.{nothing-told}
+use Rattle.eon_model.proofs.LaterAnswers.{line-told, Tells-legal}
+use Rattle.plan_core.specs.Built.{is_built}
+use Rattle.plan_serve.specs.Lines.{most_kept}
 
 -- ---- a line that is told by its first bytes
 
+answers_front : (setup : Setup) (state : State) (line : List ℕ) (m : Bool) (a : Answer) →
+    (length line ≤ most_kept → ⊥) → Answers setup state None (take most_kept line) m a →
+    Answers setup state None line m a
+answers_front setup state line m a more (Long x long e) = Long x (omega arith) e
+answers_front setup state line m a more (Fault p x short n f e) =
+    let k = length-take-le most_kept line (omega arith) in absurd (omega arith)
+answers_front setup state line m a more (Missed c x short l q e) =
+    let k = length-take-le most_kept line (omega arith) in absurd (omega arith)
+answers_front setup state line m a more (answers.Answered c x short l s) =
+    let k = length-take-le most_kept line (omega arith) in absurd (omega arith)
+
 -- a line of more bytes than a command has is told by so many of its bytes
 pub Tells-front : (setup : Setup) (state : State) (line : List ℕ) (m : Bool) (t : Told) →
-    Tells setup state (take most_kept line) m t → Tells setup state line m t
+    Tells setup is_built state (take most_kept line) m t → Tells setup is_built state line m t
 Tells-front setup state line m t h =
-    elim (nat_le (length line) most_kept) as (λ (b : Bool). nat_le (length line) most_kept ≡ b → Tells setup state line m t) [
-      | true ↦ λ e. subst (λ (v : List ℕ). Tells setup state v m t) (take_all most_kept line (leb-true _ _ e)) h
+    elim (nat_le (length line) most_kept) as (λ (b : Bool). nat_le (length line) most_kept ≡ b → Tells setup is_built state line m t) [
+      | true ↦ λ e. subst (λ (v : List ℕ). Tells setup is_built state v m t) (take_all most_kept line (leb-true _ _ e)) h
       | false ↦ λ e. long (λ short. both_ways _ e (le-leb _ _ short)) h
     ] refl
   where
-    long : (length line ≤ most_kept → ⊥) → Tells setup state (take most_kept line) m t → Tells setup state line m t
-    long more (Missed c x y l n z) =
+    long : (length line ≤ most_kept → ⊥) → Tells setup is_built state (take most_kept line) m t →
+        Tells setup is_built state line m t
+    long more (Answered a built given is) =
+        Answered a (λ c short l. absurd (omega arith)) (answers_front setup state line m a more given) is
+    long more (Untold c x short l built is) =
         let k = length-take-le most_kept line (omega arith) in absurd (omega arith)
-    long more (Answered c a x y l i g z) =
-        let k = length-take-le most_kept line (omega arith) in absurd (omega arith)
-    long more (Untold x n z) = Untold x (λ c short l. absurd (omega arith)) z
 
--- ---- every line is told
+-- ---- a line is told in one way
 
-gives_some : (setup : Setup) (state : State) (o : Outcome) → is_told_outcome o ≡ true →
-    (a : Answer) × Gives setup state o a
-gives_some setup state (Say r) h = (said r, refl)
-gives_some setup state (Change e r) h = (record { reply = r; event = Some e }, refl)
-gives_some setup state SayPlan h = absurd (cc)
+Tells-unique : (setup : Setup) (state : State) (line : List ℕ) (m : Bool) (t u : Told) →
+    Tells setup is_built state line m t → Tells setup is_built state line m u → t ≡ u
+Tells-unique setup state line m t u (Answered a x g e) (Answered b y h f) =
+    e ∙ ap Now (Answers-unique setup state None line m a b g h) ∙ sym f
+Tells-unique setup state line m t u (Answered a x g e) (Untold d y short l built f) =
+    absurd (both_ways (is_built d) built (x d short l))
+Tells-unique setup state line m t u (Untold c x short l built e) (Answered b y h f) =
+    absurd (both_ways (is_built c) built (y c short l))
+Tells-unique setup state line m t u (Untold c x short l built e) (Untold d y few k missing f) = e ∙ sym f
 
--- the command that the line would be, and whether it is told
-told_here : Setup → State → List ℕ → Command → Bool
-told_here setup state line c =
-    (bytes_eq line (command_text c) && is_command c) && (nat_le (length line) 4096 && is_told setup state c)
+missed_is_memory : (setup : Setup) (state : State) (line : List ℕ) (a : Answer) →
+    Answers setup state None line true a → a ≡ said Reply.Memory
+missed_is_memory setup state line a (Long x long e) = absurd (false≢true (sym x))
+missed_is_memory setup state line a (Fault p x short n f e) = absurd (false≢true (sym x))
+missed_is_memory setup state line a (Missed c x short l q e) = e
+missed_is_memory setup state line a (answers.Answered c x short l s) = absurd (false≢true (sym x))
 
-pub Tells-some : (setup : Setup) (state : State) (line : List ℕ) → (t : Told) × Tells setup state line false t
-unfolding told_here
-Tells-some setup state line =
-    let c = command_read (split_by 32 line) in
-    elim (told_here setup state line c) as (λ (b : Bool). told_here setup state line c ≡ b → (t : Told) × Tells setup state line false t) [
-      | true ↦ λ e. (
-          let parts = and_parts (bytes_eq line (command_text c) && is_command c) (nat_le (length line) 4096 && is_told setup state c) e in
-          let text = and_parts (bytes_eq line (command_text c)) (is_command c) parts.0 in
-          let told = and_parts (nat_le (length line) 4096) (is_told setup state c) parts.1 in
-          let outcome = and_parts (is_told_command c) (is_told_outcome (outcome_of setup state c)) told.1 in
-          let given = gives_some setup state (outcome_of setup state c) outcome.1 in (
-            Now given.0,
-            Answered c given.0 refl (leb-true _ _ told.0)
-                (record { in_range = text.1; is = (bytes_eq-Decides line (command_text c)).0 text.0 }) told.1 given.1 refl,
-          ))
-      | false ↦ λ e. (
-        Told.Later,
-        Untold refl (λ d short l told. both_ways _ e
-            (subst (λ (v : Command). told_here setup state line v ≡ true)
-            (sym (ap (λ (v : List ℕ). command_read (split_by 32 v)) l.is ∙ line-read d l.in_range))
-            (here d short l told))) refl,
-      )
-    ] refl
-  where
-    here : (d : Command) → length line ≤ 4096 → IsLineOf line d → IsTrue (is_told setup state d) →
-        told_here setup state line d ≡ true
-    here d short l told = and_from _ _
-        (and_from _ _ ((bytes_eq-Decides line (command_text d)).1 l.is) l.in_range)
-        (and_from _ _ (le-leb _ _ short) told)
+-- a missed line has the line `memory`
+missed_text : (setup : Setup) (state : State) (line : List ℕ) (t : Told) →
+    Tells setup is_built state line true t → told_text setup state t ≡ codes "memory\n"
+missed_text setup state line t (Answered a x g e) =
+    ap (told_text setup state) (e ∙ ap Now (missed_is_memory setup state line a g))
+missed_text setup state line t (Untold c x short l built e) = absurd (false≢true (sym x))
 
--- ---- the text is never empty
+-- ---- writing broke off inside a reply
 
-not_empty : (w : List ℕ) → w ++ 10 ∷ [] ≢ []
-not_empty [] e = cc
-not_empty (b ∷ w) e = cc
+same_or_not : (a b : ℕ) → (a ≡ b) ⊎ (a ≢ b)
+same_or_not a b = elim (cases_Bool (a == b)) [
+  | inl same ↦ inl (eqb-true a b same)
+  | inr other ↦ inr (eqb-false a b other)
+]
 
-told_text_of : (setup : Setup) (state : State) (o : Outcome) (a : Answer) → is_told_outcome o ≡ true →
-    Gives setup state o a → told_text setup state (Now a) ≢ []
-told_text_of setup state (Say (Reply.Taken name)) a h g e =
-    not_empty (spaced (codes "taken" ∷ name ∷ []))
-    (subst (λ (v : Answer). told_text setup state (Now v) ≡ []) g e)
-told_text_of setup state (Say (Reply.Clash name)) a h g e =
-    not_empty (spaced (codes "clash" ∷ name ∷ []))
-    (subst (λ (v : Answer). told_text setup state (Now v) ≡ []) g e)
-told_text_of setup state (Change d (Reply.Placed name)) a h g e =
-    not_empty (spaced (codes "ok" ∷ codes "place" ∷ name ∷ old_leg_words setup.network (state_after setup.network state (Some d)) name))
-    (subst (λ (v : Answer). told_text setup state (Now v) ≡ []) g e)
-told_text_of setup state _ a h g e = absurd (never h)
-  where
-    never : false ≡ true → ⊥
-    never k = cc
+prefix_of_same : (b c : ℕ) (part whole : List ℕ) → b ≡ c → IsPrefix part whole → IsPrefix (b ∷ part) (c ∷ whole)
+prefix_of_same b c part whole e p = (p.0, ap (λ (v : List ℕ). b ∷ v) p.1 ∙ ap (λ (v : ℕ). v ∷ whole) e)
 
--- what is told of a line that is not missed is some text
-pub told_text-some : (setup : Setup) (state : State) (line : List ℕ) (t : Told) →
-    Tells setup state line false t → told_text setup state t ≢ []
-told_text-some setup state line t (Missed c x y l n z) e = absurd (both_ways false refl x)
-told_text-some setup state line t (Answered c a x y l i g z) e =
-    let told = and_parts (is_told_command c) (is_told_outcome (outcome_of setup state c)) i in
-    told_text_of setup state (outcome_of setup state c) a told.1 g
-    (subst (λ (v : Told). told_text setup state v ≡ []) z e)
-told_text-some setup state line t (Untold x n z) e =
-    not_empty (codes "later") (subst (λ (v : Told). told_text setup state v ≡ []) z e)
+same_head : (b c : ℕ) (part whole : List ℕ) → IsPrefix (b ∷ part) (c ∷ whole) → b ≡ c
+same_head b c part whole p = let e = p.1 in cc
 
--- ---- what was answered begins the output over more lines
+same_tail : (b c : ℕ) (part whole : List ℕ) → IsPrefix (b ∷ part) (c ∷ whole) → IsPrefix part whole
+same_tail b c part whole p = (p.0, let e = p.1 in cc)
 
-begins_none : (setup : Setup) (number : ℕ) (s : State) (ys : List (List ℕ)) →
-    BeginsToldLines setup [] number s ys []
-begins_none setup number s [] = refl
-begins_none setup number s (y ∷ ys) =
-    let told = Tells-some setup s y in
-    inl (record {
-      told = told.0;
-      tells = told.1;
-      rest = told_text setup s told.0;
-      more = told_text-some setup s y told.0 told.1;
-      is = refl;
-      missed = (
-        λ never. absurd (both_ways _ refl never),
-        λ both. absurd (both.1 (told.0, told.1, (told_text setup s told.0, refl))),
-      );
-    })
+prefix_or_not : (part whole : List ℕ) → IsPrefix part whole ⊎ (IsPrefix part whole → ⊥)
+prefix_or_not [] whole = inl (whole, refl)
+prefix_or_not (b ∷ part) [] = inr (λ p. let e = p.1 in cc)
+prefix_or_not (b ∷ part) (c ∷ whole) = elim (same_or_not b c) [
+  | inr other ↦ inr (λ p. other (same_head b c part whole p))
+  | inl same ↦ elim (prefix_or_not part whole) [
+    | inl p ↦ inl (prefix_of_same b c part whole same p)
+    | inr n ↦ inr (λ p. n (same_tail b c part whole p))
+  ]
+]
 
-pub told_texts-begins : (setup : Setup) (number : ℕ) (s : State) (xs ys : List (List ℕ)) (t : List Told) →
-    TellsLines setup [] number s xs t → BeginsToldLines setup [] number s (xs ++ ys) (told_texts setup s t)
-told_texts-begins setup number s [] ys [] h = begins_none setup number s ys
-told_texts-begins setup number s [] ys (a ∷ t) h = absurd h
-told_texts-begins setup number s (x ∷ xs) ys [] h = absurd h
-told_texts-begins setup number s (x ∷ xs) ys (a ∷ t) h =
-    inr (
-      a,
-      told_texts setup (state_told setup.network s a) t,
-      h.0,
-      refl,
-      told_texts-begins setup (number + 1) (state_told setup.network s a) xs ys t h.1,
-    )
+empty_or_not : (bytes : List ℕ) → (bytes ≡ []) ⊎ (bytes ≢ [])
+empty_or_not [] = inl refl
+empty_or_not (b ∷ bytes) = inr (λ e. cc)
 
--- ---- legal states
+if_quit : (quit : Bool) (P Q : Type 0) → P → Q → MatchBool quit P Q
+if_quit true P Q p q = p
+if_quit false P Q p q = q
 
-Legal-none : (setup : Setup) → Legal setup []
-Legal-none setup = Legal-from_parts setup []
-    (record { fit = refl; clear = refl; differ = refl; few = omega arith; one_way = refl })
+-- The line counts as missed or not, and then what was given begins the output from this line on.
+pub record Broken (setup : Setup) (here : State) (line part : List ℕ) : Type 0 where
+  pub counts : Bool
+  pub begins : (missed : List ℕ) (number : ℕ) (more : List (List ℕ)) → has_number missed number ≡ counts →
+      MissesNoneFrom missed (number + 1) → BeginsToldLines setup is_built missed number here (line ∷ more) part
 
-Tells-legal : (setup : Setup) (state : State) (line : List ℕ) (m : Bool) (t : Told) → IsTrue (is_setup setup) →
-    Legal setup state → Tells setup state line m t → Legal setup (state_told setup.network state t)
-Tells-legal setup state line m t ok legal (Missed c x y l n z) =
-    subst (λ (v : Told). Legal setup (state_told setup.network state v)) (sym z) legal
-Tells-legal setup state line m t ok legal (Answered c a x y l i g z) =
-    subst (λ (v : Told). Legal setup (state_told setup.network state v)) (sym z)
-    (answer-Legal setup state None line m a ok legal (answers.Answered c x y l g))
-Tells-legal setup state line m t ok legal (Untold x n z) =
-    subst (λ (v : Told). Legal setup (state_told setup.network state v)) (sym z) legal
+-- a part of the reply that the line has where it is not missed
+broken_told : (setup : Setup) (here : State) (line part rest : List ℕ) (t : Told) →
+    Tells setup is_built here line false t → rest ≢ [] → part ++ rest ≡ told_text setup here t →
+    Broken setup here line part
+broken_told setup here line part rest t tells some is = record {
+  counts = false;
+  begins = λ missed number more mark none.
+      inl (subst (λ (m : Bool). EndsInsideTold setup is_built here line part m) (sym mark) (record {
+        told = t;
+        tells = tells;
+        rest = rest;
+        more = some;
+        is = is;
+        missed = (λ e. absurd (false≢true e), λ both. absurd (both.1 (t, tells, (rest, is))));
+      }));
+}
 
--- every state of a run from a legal one is legal
-states_told-Legal : (setup : Setup) (missed : List ℕ) (number : ℕ) (state : State)
-    (lines : List (List ℕ)) (told : List Told) → IsTrue (is_setup setup) → Legal setup state →
-    TellsLines setup missed number state lines told →
-    All (Legal setup) (states_told setup.network state told)
-states_told-Legal setup missed number state [] [] ok legal h =
-    All-cons (Legal setup) state [] legal (λ k d below. absurd (omega arith))
-states_told-Legal setup missed number state [] (t ∷ later) ok legal h = absurd h
-states_told-Legal setup missed number state (line ∷ lines) [] ok legal h = absurd h
-states_told-Legal setup missed number state (line ∷ lines) (t ∷ later) ok legal h =
-    All-cons (Legal setup) state _ legal
-    (states_told-Legal setup missed (number + 1) (state_told setup.network state t) lines later ok
-    (Tells-legal setup state line _ t ok legal h.0) h.1)
+-- the whole of that reply
+broken_whole : (setup : Setup) (here : State) (line part : List ℕ) (t : Told) → is_setup setup ≡ true →
+    Legal setup here → Tells setup is_built here line false t → part ≡ told_text setup here t →
+    Broken setup here line part
+broken_whole setup here line part t ok legal tells is = record {
+  counts = false;
+  begins = λ missed number more mark none. inr (
+    t,
+    [],
+    subst (λ (m : Bool). Tells setup is_built here line m t) (sym mark) tells,
+    is ∙ sym (append-nil (told_text setup here t)),
+    if_quit (is_quit line) _ _ refl
+        (nothing-told setup is_built missed (number + 1) (state_told setup.network here t) more ok
+        (Tells-legal setup is_built here line false t ok legal tells) none),
+  );
+}
 
--- every state of a run over a planned network is legal
-pub run-Legal : (setup : Setup) (bytes missed output : List ℕ) → IsTrue (is_setup setup) →
-    (run : RunsSoFar setup bytes missed output) → All (Legal setup) (states_told setup.network [] run.told)
-run-Legal setup bytes missed output ok run =
-    states_told-Legal setup missed 1 [] (lines_of bytes) run.told ok (Legal-none setup) run.tells
+-- a part of the line `memory` that does not begin the other reply
+broken_memory : (setup : Setup) (here : State) (line part rest : List ℕ) (t last : Told) →
+    Tells setup is_built here line false t → (IsPrefix part (told_text setup here t) → ⊥) →
+    Tells setup is_built here line true last → rest ≢ [] → part ++ rest ≡ told_text setup here last →
+    Broken setup here line part
+broken_memory setup here line part rest t last tells other missed_tells some is = record {
+  counts = true;
+  begins = λ missed number more mark none.
+      inl (subst (λ (m : Bool). EndsInsideTold setup is_built here line part m) (sym mark) (record {
+        told = last;
+        tells = missed_tells;
+        rest = rest;
+        more = some;
+        is = is;
+        missed = (
+          λ e. (
+            (rest, is ∙ missed_text setup here line last missed_tells),
+            λ b. other (subst (λ (v : Told). IsPrefix part (told_text setup here v))
+                (Tells-unique setup here line false b.0 t b.1 tells) b.2),
+          ),
+          λ both. refl,
+        );
+      }));
+}
+
+broken_missed : (setup : Setup) (here : State) (line part rest : List ℕ) (last : Told) → is_setup setup ≡ true →
+    Legal setup here → Tells setup is_built here line true last → rest ≢ [] →
+    part ++ rest ≡ told_text setup here last → Broken setup here line part
+broken_missed setup here line part rest last ok legal tells some is =
+    let own = line-told setup is_built here line legal in
+    elim (prefix_or_not part (told_text setup here own.0)) [
+      | inr other ↦ broken_memory setup here line part rest own.0 last own.1 other tells some is
+      | inl prefix ↦ elim (empty_or_not prefix.0) [
+        | inr more ↦ broken_told setup here line part prefix.0 own.0 own.1 more prefix.1
+        | inl none ↦ broken_whole setup here line part own.0 ok legal own.1
+            (sym (append-nil part) ∙ ap (λ (v : List ℕ). part ++ v) (sym none) ∙ prefix.1)
+      ]
+    ]
+
+-- whether the line is missed or not
+pub broken_line : (setup : Setup) (here : State) (line part rest : List ℕ) (missed : Bool) (last : Told) →
+    is_setup setup ≡ true → Legal setup here → Tells setup is_built here line missed last → rest ≢ [] →
+    part ++ rest ≡ told_text setup here last → Broken setup here line part
+broken_line setup here line part rest true last ok legal tells some is =
+    broken_missed setup here line part rest last ok legal tells some is
+broken_line setup here line part rest false last ok legal tells some is =
+    broken_told setup here line part rest last tells some is

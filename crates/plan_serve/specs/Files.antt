@@ -1,8 +1,9 @@
 -- What the files say, where they are told.
-use Rattle.std.specs.Prelude.{◌≡◌, ℕ, ◌≤◌, ⊤, IsTrue, List, length, Option, Some, None}
+use Rattle.std.specs.Prelude.{◌≡◌, ℕ, ◌<◌, ◌≤◌, ⊤, List, length, Option, Some, None}
 use Rattle.eon_model.specs.Legal.{Setup}
 use Rattle.eon_model.specs.NetworkText.{IsNetworkTextOf}
-use Rattle.eon_model.specs.Later.{is_one_fibre}
+use Rattle.eon_model.specs.NetworkFault.{Why, network_fault}
+use Rattle.eon_model.specs.Modes.{network_limit}
 use Rattle.eon_outside.specs.Reading.{NamedFiles}
 use Rattle.eon_outside.specs.WholeFile.{IsFile}
 
@@ -11,25 +12,23 @@ abbrev pub IsLeft : Option (List ℕ) → List ℕ → Type 0
 IsLeft None rest = ⊤
 IsLeft (Some left) rest = left ≡ rest
 
--- no longer network text is read
-abbrev pub longest_network : ℕ
-longest_network = 1048576
-
--- no byte of a command stream behind this many is read as one of a line
-abbrev pub longest_stream : ℕ
-longest_stream = 268435456
-
--- the bytes are the text of a network that is planned
-pub record IsPlannedText (bytes : List ℕ) (setup : Setup) : Type 0 where
-  pub short : length bytes ≤ longest_network
+-- the bytes are the text of this setup, and not too long
+pub record IsAcceptedText (bytes : List ℕ) (setup : Setup) : Type 0 where
+  pub short : length bytes ≤ network_limit
   pub text : IsNetworkTextOf bytes setup
-  pub one_fibre : IsTrue (is_one_fibre setup)
 
--- the file of this name is the text of a network that is planned
-abbrev pub IsPlannedFile : Option NamedFiles → List ℕ → Setup → Type 0
-IsPlannedFile files name setup = (bytes : List ℕ) × IsFile files name bytes × IsPlannedText bytes setup
+-- the file of this name is the text of this setup
+abbrev pub IsAcceptedFile : Option NamedFiles → List ℕ → Setup → Type 0
+IsAcceptedFile files name setup = (bytes : List ℕ) × IsFile files name bytes × IsAcceptedText bytes setup
 
--- the file of this name is no such text
-abbrev pub IsUnplannedFile : Option NamedFiles → List ℕ → Type 0
-IsUnplannedFile files name =
-    (bytes : List ℕ) × IsFile files name bytes × ((setup : Setup) → ¬ IsPlannedText bytes setup)
+-- the first fault of the file of this name
+pub record IsRefusedFile (files : Option NamedFiles) (name : List ℕ) (number : ℕ) (why : Why) : Type 0 where
+  pub bytes : List ℕ
+  pub told : IsFile files name bytes
+  pub short : length bytes ≤ network_limit
+  pub fault : network_fault bytes ≡ Some (number, why)
+  pub no_text : (setup : Setup) → ¬ IsNetworkTextOf bytes setup
+
+-- the file of this name is too long
+abbrev pub IsLongFile : Option NamedFiles → List ℕ → Type 0
+IsLongFile files name = (bytes : List ℕ) × IsFile files name bytes × (network_limit < length bytes)

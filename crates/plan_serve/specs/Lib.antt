@@ -1,7 +1,7 @@
+pub mod Answering
 pub mod Ends
 pub mod Files
 pub mod Lines
 pub mod Parts
 pub mod Session
 pub mod Status
-pub mod Words

@@ -1,8 +1,10 @@
 -- The lines of a stream that ended, and the states of a run.
 use Rattle.std.specs.Prelude.{ℕ, ◌==◌, Bool, not, List, [], ◌∷◌, if◌then◌else◌}
-use Rattle.std.specs.List.{list_all}
+use Rattle.std.specs.List.{list_all, list_any}
 use Rattle.eon_model.specs.Network.{Network}
 use Rattle.eon_model.specs.Services.{State}
+use Rattle.eon_model.specs.Answers.{is_quit}
+use Rattle.eon_model.specs.NetworkFault as network
 use Rattle.eon_model.specs.Later.{Told, state_told}
 
 abbrev pub before_some : ℕ → List ℕ → List ℕ
@@ -16,6 +18,10 @@ whole_lines (b ∷ bytes) = if b == 10 then b ∷ whole_lines bytes else before_
 
 abbrev pub has_no_end : List ℕ → Bool
 has_no_end bytes = list_all (λ b. not (b == 10)) bytes
+
+-- whether a `quit` line ends in these bytes
+abbrev pub quits_within : List ℕ → Bool
+quits_within bytes = list_any is_quit (network.whole_lines bytes).0
 
 -- More than a command line has: a line is told by so many of its first bytes.
 abbrev pub most_kept : ℕ

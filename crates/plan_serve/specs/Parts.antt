@@ -1,22 +1,40 @@
 -- What the parts of a call come to.
-use Rattle.std.specs.Prelude.{◌≡◌, ◌⊎◌, ℕ, ⊤, List, [], ◌∷◌, ◌++◌, Option}
+use Rattle.std.specs.Prelude.{◌≡◌, ◌⊎◌, ℕ, ⊤, List, [], ◌∷◌, ◌++◌, Option, Some, None}
 use Rattle.std.specs.Io.KnownBytes.{Keeps}
 use Rattle.eon_model.specs.Legal.{Setup}
-use Rattle.eon_model.specs.Later.{net_later_line}
+use Rattle.eon_model.specs.Modes.{Task}
+use Rattle.net_file.specs.Told.{why_told}
 use Rattle.plan_serve.specs.declared.status.Status.{Status}
-use Rattle.plan_serve.specs.declared.status.Status.TheVariants.{Done, Words, NetLater, ReadFault, Memory, WriteFault, InputLong}
+use Rattle.plan_serve.specs.declared.status.Status.TheVariants.{Done, Words, NetRefused, NetLong, ReadFault, Memory, WriteFault, InputLong, Later}
+use Rattle.plan_serve.specs.declared.top.Asked.{Asked}
+use Rattle.plan_serve.specs.declared.top.Asked.TheVariants as asked
 use Rattle.plan_serve.specs.declared.top.NetworkFile.{NetworkFile}
-use Rattle.plan_serve.specs.declared.top.NetworkFile.TheVariants.{Planned, Unplanned, Unread, NoMemory}
+use Rattle.plan_serve.specs.declared.top.NetworkFile.TheVariants.{Accepted, Refused, Long, Unread, NoMemory}
 use Rattle.eon_outside.specs.Reading.{NamedFiles}
-use Rattle.one_fibre_text.specs.OneFibres.{setup_of}
 use Rattle.eon_outside.specs.WholeFile.{IsFile}
-use Rattle.plan_serve.specs.Files.{IsLeft, IsPlannedFile, IsUnplannedFile}
-use Rattle.plan_serve.specs.Ends.{GivesLine, AnswersAll, StopsAtLong, StopsReading, StopsWriting, OverNetwork, FaultsReading}
+use Rattle.plan_serve.specs.Files.{IsLeft, IsAcceptedFile, IsRefusedFile, IsLongFile}
+use Rattle.plan_serve.specs.Ends.{AnswersAll, StopsAtLong, StopsReading, StopsWriting, OverNetwork, FaultsReading}
+
+-- a mode that is not built yet
+abbrev pub IsLater : Option Task → Type 0
+IsLater (Some (Task.Init net journal)) = ⊤
+IsLater (Some (Task.Serve net journal commands)) = ⊤
+IsLater (Some (Task.Replay net journal)) = ⊤
+IsLater (Some (Task.Drive net seed count)) = ⊤
+IsLater _ = ⊥
+
+-- the words with this task ask for this
+abbrev pub IsAsked : Option Task → Asked → Type 0
+IsAsked task (asked.Dry net commands) = task ≡ Some (Task.Dry net.now commands.now)
+IsAsked task asked.Later = IsLater task
+IsAsked task asked.Nothing = task ≡ None
+IsAsked task asked.NoMemory = ⊤
 
 -- what the file of this name is
 abbrev pub NetworkIs : Option NamedFiles → List ℕ → Type 0 → NetworkFile → Type 0
-NetworkIs files name failed (Planned network) = IsPlannedFile files name (setup_of network)
-NetworkIs files name failed Unplanned = IsUnplannedFile files name
+NetworkIs files name failed (Accepted setup) = IsAcceptedFile files name setup
+NetworkIs files name failed (Refused fault) = IsRefusedFile files name fault.line (why_told fault.why)
+NetworkIs files name failed Long = IsLongFile files name
 NetworkIs files name failed Unread = failed
 NetworkIs files name failed NoMemory = ⊤
 
@@ -35,21 +53,23 @@ ServeEnds files setup commands old new left before now InputLong =
 ServeEnds files setup commands old new left before now Memory = (new ≡ old) × Keeps before now
 ServeEnds files setup commands old new left before now _ = ⊥
 
+-- the whole call over the network and the stream; besides its own line, a refused network gives nothing
 abbrev pub DryEnds : Option NamedFiles → List ℕ → List ℕ → List (List ℕ) → List (List ℕ) → Option (List ℕ)
-    → Option (List ℕ) → Option (List ℕ) → Type 0 → Status → Type 0
-DryEnds files net commands old new left before now failed Done =
+    → Option (List ℕ) → Option (List ℕ) → Status → Type 0
+DryEnds files net commands old new left before now Done =
     (new ≡ old ++ net ∷ commands ∷ [])
     × OverNetwork files net (λ setup. AnswersAll (IsFile files commands) setup left before now)
-DryEnds files net commands old new left before now failed ReadFault =
+DryEnds files net commands old new left before now ReadFault =
     FaultsReading files net commands old new left before now
-DryEnds files net commands old new left before now failed WriteFault =
+DryEnds files net commands old new left before now WriteFault =
     (new ≡ old ++ net ∷ commands ∷ [])
     × OverNetwork files net (λ setup. StopsWriting (IsFile files commands) setup before now)
-DryEnds files net commands old new left before now failed InputLong =
+DryEnds files net commands old new left before now InputLong =
     (new ≡ old ++ net ∷ commands ∷ [])
     × OverNetwork files net (λ setup. StopsAtLong (IsFile files commands) setup before now)
-DryEnds files net commands old new left before now failed Memory =
+DryEnds files net commands old new left before now Memory =
     ((new ≡ old) ⊎ (new ≡ old ++ net ∷ [])) × Keeps before now
-DryEnds files net commands old new left before now failed NetLater =
-    (new ≡ old ++ net ∷ []) × IsUnplannedFile files net × GivesLine before now net_later_line failed
-DryEnds files net commands old new left before now failed Words = ⊥
+DryEnds files net commands old new left before now (NetRefused number why) =
+    (new ≡ old ++ net ∷ []) × IsRefusedFile files net number (why_told why)
+DryEnds files net commands old new left before now NetLong = (new ≡ old ++ net ∷ []) × IsLongFile files net
+DryEnds files net commands old new left before now _ = ⊥

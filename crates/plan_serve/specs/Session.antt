@@ -1,12 +1,16 @@
 -- What the run over a stream does with a piece of it, and at its end.
-use Rattle.std.specs.Prelude.{◌≡◌, ◌⊎◌, ℕ, false, List, [], ◌∷◌, ◌++◌, take, IsTrue, Option, Result, Ok, Err}
+use Rattle.std.specs.Prelude.{◌≡◌, ◌≢◌, ◌⊎◌, ℕ, ⊤, true, false, Bool, List, [], ◌∷◌, ◌++◌, take, IsTrue, Option, Result, Ok, Err}
 use Rattle.std.specs.List.{flat_map, list_all}
 use Rattle.std.specs.Io.KnownBytes.{Appends}
 use Rattle.eon_model.specs.Services.{State}
 use Rattle.eon_model.specs.Legal.{Setup}
-use Rattle.eon_model.specs.Later.{Told, Tells, TellsLines, told_text, told_texts, state_told, state_after_told, EndsInsideTold}
+use Rattle.eon_model.specs.Answers.{is_quit}
+use Rattle.eon_model.specs.Later.{Told, Tells, told_text, told_texts, state_told, state_after_told}
+use Rattle.plan_core.specs.Built.{is_built}
 use Rattle.plan_serve.specs.declared.status.Status.{Status}
 use Rattle.plan_serve.specs.declared.status.Status.TheVariants.{Done, ReadFault, WriteFault, InputLong}
+use Rattle.plan_serve.specs.declared.answering.Flow.{Flow}
+use Rattle.plan_serve.specs.declared.answering.Flow.TheVariants.{On, Ended}
 use Rattle.plan_serve.specs.Files.{IsLeft}
 use Rattle.plan_serve.specs.Lines.{has_no_end, most_kept}
 use Rattle.plan_serve.specs.Ends.{AnswersAll, StopsAtLong, StopsReading, StopsWriting}
@@ -20,27 +24,64 @@ pub record Splits (bytes : List ℕ) (lines : List (List ℕ)) (rest : List ℕ)
   pub whole : bytes ≡ ended lines ++ rest
   pub each : IsTrue (list_all has_no_end lines)
 
--- These lines are answered, and none is missed.
+-- ---- whole answers
+
+-- what these lines come to, none of which is `quit`; each has a mark that says whether it is missed
+abbrev pub TellsMarked : Setup → State → List (List ℕ) → List Bool → List Told → Type 0
+TellsMarked setup state [] [] [] = ⊤
+TellsMarked setup state (line ∷ lines) (missed ∷ marks) (t ∷ told) =
+    Tells setup is_built state line missed t × (is_quit line ≡ false)
+    × TellsMarked setup (state_told setup.network state t) lines marks told
+TellsMarked setup state _ _ _ = ⊥
+
+-- These lines are answered, and none is `quit`.
 pub record AreAnswered (setup : Setup) (old new : State) (lines : List (List ℕ)) (before now : Option (List ℕ))
     : Type 0 where
+  pub marks : List Bool
   pub told : List Told
-  pub tells : (number : ℕ) → TellsLines setup [] number old lines told
+  pub tells : TellsMarked setup old lines marks told
   pub state : new ≡ state_after_told setup.network old told
   pub given : Appends before now (told_texts setup old told)
 
--- the output over these lines, of which none is missed, ends inside the reply to one of them
-abbrev pub BreaksIn : Setup → State → List (List ℕ) → List ℕ → Type 0
-BreaksIn setup state [] given = ⊥
-BreaksIn setup state (line ∷ lines) given =
-    EndsInsideTold setup state line given false
-    ⊎ ((t : Told) × (later : List ℕ) × Tells setup state line false t
-    × (given ≡ told_text setup state t ++ later) × BreaksIn setup (state_told setup.network state t) lines later)
+-- ---- an answer at which it ends
+
+-- The first of these lines are answered, with this text, and in this state comes this line; it is told so.
+pub record Comes (setup : Setup) (old : State) (lines : List (List ℕ)) (here : State) (text line : List ℕ)
+    (missed : Bool) (last : Told) : Type 0 where
+  pub done : List (List ℕ)
+  pub more : List (List ℕ)
+  pub whole : lines ≡ done ++ line ∷ more
+  pub marks : List Bool
+  pub told : List Told
+  pub tells : TellsMarked setup old done marks told
+  pub state : here ≡ state_after_told setup.network old told
+  pub is : text ≡ told_texts setup old told
+  pub tells_last : Tells setup is_built here line missed last
+
+-- One of these lines is `quit`, and all up to it are answered.
+pub record Quits (setup : Setup) (old : State) (lines : List (List ℕ)) (before now : Option (List ℕ)) : Type 0 where
+  pub here : State
+  pub text : List ℕ
+  pub line : List ℕ
+  pub missed : Bool
+  pub last : Told
+  pub comes : Comes setup old lines here text line missed last
+  pub quit : is_quit line ≡ true
+  pub given : Appends before now (text ++ told_text setup here last)
 
 -- Writing broke off inside the reply to one of these lines.
 pub record Breaks (setup : Setup) (old : State) (lines : List (List ℕ)) (before now : Option (List ℕ)) : Type 0 where
+  pub here : State
+  pub text : List ℕ
+  pub line : List ℕ
+  pub missed : Bool
+  pub last : Told
+  pub comes : Comes setup old lines here text line missed last
   pub part : List ℕ
-  pub breaks : BreaksIn setup old lines part
-  pub given : Appends before now part
+  pub rest : List ℕ
+  pub some : rest ≢ []
+  pub is : part ++ rest ≡ told_text setup here last
+  pub given : Appends before now (text ++ part)
 
 -- ---- a piece
 
@@ -54,17 +95,18 @@ pub record FeedsAll (setup : Setup) (old new : State) (begun bytes : List ℕ) (
   pub kept : begun ≡ take most_kept rest
   pub answered : AreAnswered setup old new lines before now
 
--- Writing broke off in the lines of these bytes.
-pub record FeedsPart (setup : Setup) (old : State) (bytes : List ℕ) (before now : Option (List ℕ)) : Type 0 where
+-- Something holds of the lines that end in these bytes.
+pub record WithinLines (bytes : List ℕ) (P : List (List ℕ) → Type 0) : Type 0 where
   pub lines : List (List ℕ)
   pub rest : List ℕ
   pub splits : Splits bytes lines rest
-  pub breaks : Breaks setup old lines before now
+  pub holds : P lines
 
-abbrev pub Feeds : {T E : Type 0} → Setup → State → State → List ℕ → List ℕ → Option (List ℕ) → Option (List ℕ)
-    → Result T E → Type 0
-Feeds setup old new begun bytes before now (Ok _) = FeedsAll setup old new begun bytes before now
-Feeds setup old new begun bytes before now (Err _) = FeedsPart setup old bytes before now
+abbrev pub Feeds : {E : Type 0} → Setup → State → State → List ℕ → List ℕ → Option (List ℕ) → Option (List ℕ)
+    → Result Flow E → Type 0
+Feeds setup old new begun bytes before now (Ok On) = FeedsAll setup old new begun bytes before now
+Feeds setup old new begun bytes before now (Ok Ended) = WithinLines bytes (λ lines. Quits setup old lines before now)
+Feeds setup old new begun bytes before now (Err _) = WithinLines bytes (λ lines. Breaks setup old lines before now)
 
 -- ---- the end
 
@@ -74,7 +116,8 @@ last_line [] = []
 last_line (b ∷ bytes) = (b ∷ bytes) ∷ []
 
 abbrev pub FinishesAt : Setup → State → State → List ℕ → Option (List ℕ) → Option (List ℕ) → Status → Type 0
-FinishesAt setup old new rest before now Done = AreAnswered setup old new (last_line rest) before now
+FinishesAt setup old new rest before now Done =
+    AreAnswered setup old new (last_line rest) before now ⊎ Quits setup old (last_line rest) before now
 FinishesAt setup old new rest before now WriteFault = Breaks setup old (last_line rest) before now
 FinishesAt setup old new rest before now _ = ⊥
 

@@ -1,13 +1,28 @@
--- The code with which the program ends.
-use Rattle.std.specs.Prelude.{ℕ}
+-- The code with which the program ends, and the line that is written beside the replies.
+use Rattle.std.specs.Prelude.{ℕ, List, Option, Some, None}
+use Rattle.std.specs.Option.{option_map_or}
+use Rattle.eon_model.specs.Modes as modes
+use Rattle.eon_model.specs.Later.{later_line}
+use Rattle.net_file.specs.Told.{why_told}
 use Rattle.plan_serve.specs.declared.status.Status.{Status}
-use Rattle.plan_serve.specs.declared.status.Status.TheVariants.{Done, Words, NetLater, ReadFault, Memory, WriteFault, InputLong}
+use Rattle.plan_serve.specs.declared.status.Status.TheVariants.{Done, Words, NetRefused, NetLong, ReadFault, Memory, WriteFault, InputLong, Later}
 
+-- the status of the planner that it is; none for a mode that is not built yet
+abbrev pub status_told : Status → Option modes.Status
+status_told Done = Some modes.Status.Done
+status_told Words = Some modes.Status.Words
+status_told (NetRefused line why) = Some (modes.Status.NetRefused line (why_told why))
+status_told NetLong = Some modes.Status.NetLong
+status_told ReadFault = Some modes.Status.ReadFault
+status_told Memory = Some modes.Status.Memory
+status_told WriteFault = Some modes.Status.WriteFault
+status_told InputLong = Some modes.Status.InputLong
+status_told Later = None
+
+-- its code, and 9 for a mode that is not built yet
 abbrev pub code_of : Status → ℕ
-code_of Done = 0
-code_of Words = 1
-code_of NetLater = 2
-code_of ReadFault = 3
-code_of Memory = 6
-code_of WriteFault = 7
-code_of InputLong = 8
+code_of status = option_map_or modes.status_code (status_told status) 9
+
+-- the one line that a refusal writes, if it writes one
+abbrev pub line_of : Status → Option (List ℕ)
+line_of status = option_map_or modes.status_line (status_told status) (Some later_line)

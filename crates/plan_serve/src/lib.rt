@@ -3,6 +3,8 @@
 //! the code of the status that comes back.
 #![tactic(auto)]
 
+mod answering;
+mod fault_line;
 mod session;
 pub mod status;
 pub mod top;

@@ -1,6 +1,5 @@
-use Rattle.std.proofs.Common.{◌≡◌, ◌≤◌, ◌∙◌, sym, ap, drop, find, length, add-one, arith, Option, Some, None}
+use Rattle.std.proofs.Common.{◌≤◌, ◌∙◌, sym, length, add-one, arith, Some}
 use Rattle.std.specs.Option.{option_copied}
-use Rattle.eon_model.specs.Services.{Service}
 use Rattle.leg_state.specs.Clashes.{clashes_of}
 use Rattle.leg_state.proofs.ClashLemmas.{find_past, first_found, first_none}
 use Rattle.leg_state.proofs.clash.first_clash.Goals as goal

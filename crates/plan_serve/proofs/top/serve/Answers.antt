@@ -1,8 +1,8 @@
-use Rattle.std.proofs.Common.{◌∙◌, subst, arith}
+use Rattle.std.proofs.Common.{refl, ◌∙◌, subst, arith}
 use Rattle.eon_model.specs.Legal.{Setup}
 use Rattle.eon_outside.specs.declared.reading.Failed.{Failed}
 use Rattle.plan_serve.specs.Session.{ServedAt}
-use Rattle.plan_serve.proofs.TopLaws.{opened_is, served_ends, not_opened}
+use Rattle.plan_serve.proofs.TopLaws.{opened_is, served_ends, not_opened, keeps_all}
 use Rattle.plan_serve.proofs.top.serve.Goals as goal
 
 pub returns-in-Ok-open-clause-ends : goal.returns-in-Ok-open-clause-ends
@@ -24,3 +24,6 @@ pub returns-clause-ends : goal.returns-clause-ends
 returns-clause-ends g c =
     not_opened (g.H.Shelf.files c.args.shelf.now) _ c.args.commands.now _ _ (g.H.Shelf.left c.open-2.new.self) _
     c.in-Err.ensures.opened c.in-Err.ensures.none_open
+
+pub returns-in_default-vec-clause-ends : goal.returns-in_default-vec-clause-ends
+returns-in_default-vec-clause-ends g c = (refl, keeps_all _)

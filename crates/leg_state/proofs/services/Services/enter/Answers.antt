@@ -1,6 +1,6 @@
-use Rattle.std.proofs.Common.{◌≡◌, ℤ, sym, ◌∙◌, ap, Option, Some, None}
+use Rattle.std.proofs.Common.{◌∙◌, ap}
 use Rattle.leg_state.specs.Listed.{ServicesSeen}
-use Rattle.eon_model.specs.Services.{Service, State, service_of}
+use Rattle.eon_model.specs.Services.{Service}
 use Rattle.indexmap.proofs.CallerLemmas.{insert_entry-new}
 use Rattle.leg_state.proofs.EntryLemmas.{is_key, no_entry, list_entered, named_entered}
 use Rattle.leg_state.proofs.services.Services.enter.Goals as goal

@@ -1,7 +1,5 @@
-use Rattle.std.proofs.Common.{◌≡◌, sym, ◌∙◌, ap, subst, Option, Some, None, IsTrue, IsSome}
-use Rattle.leg_state.specs.Listed.{ServicesSeen, service_names}
-use Rattle.eon_model.specs.Names.{differ}
-use Rattle.eon_model.specs.Services.{Service, State, service_of}
+use Rattle.std.proofs.Common.{sym, ap}
+use Rattle.leg_state.specs.Listed.{ServicesSeen}
 use Rattle.leg_state.proofs.EntryLemmas.{service_found}
 use Rattle.leg_state.proofs.services.Services.find.Goals as goal
 

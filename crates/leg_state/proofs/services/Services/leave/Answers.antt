@@ -1,6 +1,5 @@
-use Rattle.std.proofs.Common.{◌≡◌, ℤ, sym, ◌∙◌, ap, Option, Some, None}
+use Rattle.std.proofs.Common.{◌∙◌, ap}
 use Rattle.leg_state.specs.Listed.{ServicesSeen}
-use Rattle.eon_model.specs.Services.{Service, State, service_of}
 use Rattle.leg_state.proofs.EntryLemmas.{service_found, named_left, list_left, no_some}
 use Rattle.leg_state.proofs.services.Services.leave.Goals as goal
 

@@ -1,7 +1,6 @@
-use Rattle.std.proofs.Common.{◌≡◌, sym, ◌∙◌, ap, subst, Option, Some, None, IsTrue, IsSome}
+use Rattle.std.proofs.Common.{subst, IsTrue}
 use Rattle.leg_state.specs.Listed.{ServicesSeen, service_names}
 use Rattle.eon_model.specs.Names.{differ}
-use Rattle.eon_model.specs.Services.{Service, State, service_of}
 use Rattle.leg_state.proofs.EntryLemmas.{names-differ}
 use Rattle.leg_state.proofs.services.Services.len.Goals as goal
 

@@ -1,6 +1,6 @@
-use Rattle.std.proofs.Common.{◌≡◌, ℤ, sym, ◌∙◌, ap, Option, Some, None}
+use Rattle.std.proofs.Common.{ℤ, ◌∙◌, ap, None}
 use Rattle.leg_state.specs.Listed.{ServicesSeen}
-use Rattle.eon_model.specs.Services.{Service, State, service_of}
+use Rattle.eon_model.specs.Services.{Service}
 use Rattle.std.proofs.Common.{w16}
 use Rattle.std.proofs.lemmas.Int.{to_z-of_z}
 use Rattle.eon_model.specs.Changes.{with_leg, drifting_to}

@@ -1,6 +1,6 @@
-use Rattle.std.proofs.Common.{◌≡◌, ℤ, sym, ◌∙◌, ap, Option, Some, None}
+use Rattle.std.proofs.Common.{◌∙◌, ap, None}
 use Rattle.leg_state.specs.Listed.{ServicesSeen}
-use Rattle.eon_model.specs.Services.{Service, State, service_of}
+use Rattle.eon_model.specs.Services.{Service}
 use Rattle.eon_model.specs.Changes.{undone}
 use Rattle.leg_state.specs.Asks.{may_go_back}
 use Rattle.leg_state.proofs.EntryLemmas.{service_found, no_service, named_changed, list_changed, undone-name}

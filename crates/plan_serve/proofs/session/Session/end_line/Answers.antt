@@ -1,7 +1,8 @@
 use Rattle.std.proofs.Common.{◌≡◌, sym, ◌∙◌, subst, length, arith}
 use Rattle.std.proofs.lemmas.Bool.{eqb-true}
 use Rattle.eon_outside.specs.declared.reading.Failed.{Failed}
-use Rattle.one_fibre.specs.Machine.{Planned, AnswersLine}
+use Rattle.plan_core.specs.Seen.{CoreSeen}
+use Rattle.plan_serve.specs.Answering.{AnswersLine}
 use Rattle.plan_serve.proofs.KeptLaws.{no_length}
 use Rattle.plan_serve.proofs.FeedLaws.{answers_whole, answers_kept}
 use Rattle.plan_serve.proofs.session.Session.end_line.Goals as goal
@@ -18,7 +19,7 @@ returns-clause-told g c = λ fragment kept.
     answers_kept {E = Failed} _ _ _ c.args.self.now.begun.items fragment c.args.part.now
     c.as_slice.result.now _ _ c.answer-answered.result kept
     (c.as_slice.ensures.value ∙ c.keep.ensures.begun)
-    (subst (λ (m : Planned). AnswersLine {E = Failed} m.setup m.state
-    c.answer-answered.new.self.state c.as_slice.result.now (g.K.Sink.given c.args.out.now)
-    (g.K.Sink.given c.answer-answered.new.out) c.answer-answered.result) c.keep.ensures.machine
+    (subst (λ (m : CoreSeen). AnswersLine {E = Failed} m.setup m.state
+    c.answer-answered.new.core.state c.as_slice.result.now (g.K.Sink.given c.args.out.now)
+    (g.K.Sink.given c.answer-answered.new.out) c.answer-answered.result) c.keep.ensures.core
     c.answer-answered.ensures.told)

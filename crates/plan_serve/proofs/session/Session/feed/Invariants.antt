@@ -9,11 +9,11 @@ invariant-loop-at g l = record {
   short : length l.rest ≤ length l.piece;
   done : List ℕ;
   whole : l.piece ≡ done ++ l.rest;
-  setup : l.self.machine.setup ≡ l.initial.self.machine.setup;
+  setup : l.self.core.setup ≡ l.initial.self.core.setup;
   fed : (fragment : List ℕ) → IsTrue (has_no_end fragment)
       → l.initial.self.begun.items ≡ take most_kept fragment
-      → FeedsAll l.initial.self.machine.setup l.initial.self.machine.state
-      l.self.machine.state l.self.begun.items (fragment ++ done) (g.K.Sink.given l.initial.out)
+      → FeedsAll l.initial.self.core.setup l.initial.self.core.state
+      l.self.core.state l.self.begun.items (fragment ++ done) (g.K.Sink.given l.initial.out)
       (g.K.Sink.given l.out);
   later : g.K.Sink.faults l.initial.out ≤ g.K.Sink.faults l.out;
 }

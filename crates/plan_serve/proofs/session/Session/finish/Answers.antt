@@ -1,7 +1,15 @@
-use Rattle.std.proofs.Common.{sym, ◌∙◌, ◌<◌, length, arith}
+use Rattle.std.proofs.Common.{◌≡◌, sym, ◌∙◌, ◌<◌, length, arith}
+use Rattle.std.proofs.lemmas.Bool.{eqb-true}
 use Rattle.eon_outside.specs.declared.reading.Failed.{Failed}
-use Rattle.plan_serve.proofs.FeedLaws.{above_zero, finishes_all, finishes_part}
+use Rattle.plan_serve.proofs.KeptLaws.{no_length}
+use Rattle.plan_serve.proofs.FeedLaws.{above_zero, finishes_none, finishes_all, finishes_part}
 use Rattle.plan_serve.proofs.session.Session.finish.Goals as goal
+
+pub returns-then-is_empty-clause-ended : goal.returns-then-is_empty-clause-ended
+returns-then-is_empty-clause-ended g c = λ fragment whole kept.
+    let none : length c.args.self.now.begun.items ≡ 0 =
+    omega (arith, c.args.self.now.begun.ok.0, eqb-true _ 0 (sym c.is_empty.ensures ∙ c.if-is_empty.true)) in
+    finishes_none _ _ c.args.self.now.begun.items fragment _ kept (no_length _ none)
 
 pub returns-in-Ok-clause-ended : goal.returns-in-Ok-clause-ended
 returns-in-Ok-clause-ended g c = λ fragment whole kept.
@@ -14,5 +22,5 @@ pub returns-in-Err-clause-ended : goal.returns-in-Err-clause-ended
 returns-in-Err-clause-ended g c = λ fragment whole kept.
     let some : 0 < length c.args.self.now.begun.items =
     omega (arith, c.args.self.now.begun.ok.0, above_zero _ (sym c.is_empty.ensures ∙ c.if-is_empty.false)) in
-    finishes_part {T = Unit {0}} _ _ _ c.args.self.now.begun.items fragment c.as_slice.result.now _ _
+    finishes_part {E = Failed} _ _ _ c.args.self.now.begun.items fragment c.as_slice.result.now _ _
     c.in-Err.field-0 kept some c.as_slice.ensures.value c.in-Err.ensures.told

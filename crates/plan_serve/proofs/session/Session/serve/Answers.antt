@@ -1,9 +1,11 @@
 use Rattle.std.proofs.Common.{◌≡◌, refl, sym, ◌∙◌, ap, subst, ℕ, ◌+◌, ◌-◌, ◌<◌, List, [], length, take, drop, arith}
 use Rattle.std.specs.Io.KnownBytes.{Consumes}
 use Rattle.std.proofs.lemmas.List.{length-take-le}
-use Rattle.plan_serve.specs.Files.{longest_stream}
+use Rattle.eon_model.specs.Modes.{stream_limit}
+use Rattle.eon_outside.specs.declared.reading.Failed.{Failed}
 use Rattle.plan_serve.proofs.LineLaws.{no_text_more}
-use Rattle.plan_serve.proofs.EndLaws.{stops_reading, stops_writing, stops_at_long, finishes, cut_at}
+use Rattle.plan_serve.proofs.FeedLaws.{fed_on, fed_ended}
+use Rattle.plan_serve.proofs.EndLaws.{stops_reading, stops_writing, stops_at_long, quits_read, finishes, cut_at}
 use Rattle.plan_serve.proofs.ServeLaws.{going_begin, going_on}
 use Rattle.plan_serve.proofs.session.Session.serve.Goals as goal
 
@@ -21,46 +23,75 @@ loop-count-init g c = record {
 pub returns-in-Err-clause-served : goal.returns-in-Err-clause-served
 returns-in-Err-clause-served g c =
     let so_far = c.loop-count.invariant in
-    stops_reading _ _ _ _ _ _ _ _ _ so_far.within c.in-Err.ensures.bytes so_far.going
+    stops_reading _ _ _ _ _ _ _ _ _ c.requires.in_range so_far.within c.in-Err.ensures.bytes so_far.going
 
 pub returns-then-count-eq0-clause-served : goal.returns-then-count-eq0-clause-served
 returns-then-count-eq0-clause-served g c =
     let so_far = c.loop-count.invariant in
     let buffer = c.read.new.buf in
     let some : 0 < length buffer = omega (arith, c.read.auto.buf, c.loop-count.auto.buffer, c.requires.some_room) in
-    finishes _ _ _ _ (g.H.Shelf.left c.read.new.self) _ _ _ _ _ _ _ c.finish.result so_far.setup so_far.within
+    finishes _ _ _ _ (g.H.Shelf.left c.read.new.self) _ _ _ _ _ _ _ c.finish.result c.requires.in_range so_far.setup
+    so_far.within
     (subst (λ (v : ℕ). Consumes (g.H.Shelf.left c.loop-count.shelf) (g.H.Shelf.left c.read.new.self) (take v buffer))
     c.if-count-eq0.true c.in-Ok.ensures.bytes.0)
     (c.in-Ok.ensures.bytes.1 c.if-count-eq0.true some) c.finish.ensures.ended so_far.going
 
-pub returns-in-Ok-feed-clause-served : goal.returns-in-Ok-feed-clause-served
-returns-in-Ok-feed-clause-served g c =
+pub returns-in-Ok-On-clause-served : goal.returns-in-Ok-On-clause-served
+returns-in-Ok-On-clause-served g c =
     let so_far = c.loop-count.invariant in
     let buffer = c.read.new.buf in
-    let allowed = longest_stream - c.loop-count.taken in
+    let allowed = stream_limit - c.loop-count.taken in
     let cut = cut_at buffer allowed c.in-Ok.count c.if-allowed-count.true c.in-Ok.ensures.bound.0 in
     stops_at_long _ _ _ _ (g.H.Shelf.left c.read.new.self) _ _ _ _ _ _ _ (take allowed buffer)
-    (drop allowed (take c.in-Ok.count buffer)) _ so_far.setup
+    (drop allowed (take c.in-Ok.count buffer)) _ c.requires.in_range so_far.setup
     (omega (arith, cut.size, so_far.within)) cut.some
     (subst (λ (v : List ℕ). Consumes (g.H.Shelf.left c.loop-count.shelf) (g.H.Shelf.left c.read.new.self) v)
-    (sym cut.is) c.in-Ok.ensures.bytes.0) c.in-Ok-feed.ensures.fed so_far.going
+    (sym cut.is) c.in-Ok.ensures.bytes.0)
+    (λ f a b. fed_on Failed _ _ _ _ _ _ _ c.in-Ok-On.field-0 c.in-Ok-On.field-0-is (c.in-Ok-On.ensures.fed f a b))
+    so_far.going
+
+pub returns-in-Ok-Ended-clause-served : goal.returns-in-Ok-Ended-clause-served
+returns-in-Ok-Ended-clause-served g c =
+    let so_far = c.loop-count.invariant in
+    let buffer = c.read.new.buf in
+    let allowed = stream_limit - c.loop-count.taken in
+    let cut = cut_at buffer allowed c.in-Ok.count c.if-allowed-count.true c.in-Ok.ensures.bound.0 in
+    quits_read _ _ _ _ (g.H.Shelf.left c.read.new.self) _ _ _ _ _ (take allowed buffer)
+    (drop allowed (take c.in-Ok.count buffer)) _ so_far.setup
+    (omega (arith, cut.size, so_far.within))
+    (subst (λ (v : List ℕ). Consumes (g.H.Shelf.left c.loop-count.shelf) (g.H.Shelf.left c.read.new.self) v)
+    (sym cut.is) c.in-Ok.ensures.bytes.0)
+    (λ f a b. fed_ended Failed _ _ _ _ _ _ _ c.in-Ok-Ended.field-0 c.in-Ok-Ended.field-0-is
+    (c.in-Ok-Ended.ensures.fed f a b)) so_far.going
 
 pub returns-in-Err-feed-clause-served : goal.returns-in-Err-feed-clause-served
 returns-in-Err-feed-clause-served g c =
     let so_far = c.loop-count.invariant in
     let buffer = c.read.new.buf in
-    let allowed = longest_stream - c.loop-count.taken in
+    let allowed = stream_limit - c.loop-count.taken in
     let cut = cut_at buffer allowed c.in-Ok.count c.if-allowed-count.true c.in-Ok.ensures.bound.0 in
     stops_writing _ _ _ _ (g.H.Shelf.left c.read.new.self) _ _ _ _ _ (take allowed buffer)
-    (drop allowed (take c.in-Ok.count buffer)) _ so_far.setup
+    (drop allowed (take c.in-Ok.count buffer)) _ c.requires.in_range so_far.setup
     (subst (λ (v : List ℕ). Consumes (g.H.Shelf.left c.loop-count.shelf) (g.H.Shelf.left c.read.new.self) v)
     (sym cut.is) c.in-Ok.ensures.bytes.0) c.in-Err-feed.ensures.fed so_far.going
+
+pub returns-in-Ok-Ended-feed-clause-served : goal.returns-in-Ok-Ended-feed-clause-served
+returns-in-Ok-Ended-feed-clause-served g c =
+    let so_far = c.loop-count.invariant in
+    let piece = take c.in-Ok.count c.read.new.buf in
+    let size : length piece ≡ c.in-Ok.count = length-take-le c.in-Ok.count c.read.new.buf c.in-Ok.ensures.bound.0 in
+    quits_read _ _ _ _ (g.H.Shelf.left c.read.new.self) _ _ _ _ _ piece [] _ so_far.setup
+    (omega (arith, size, c.if-allowed-count.false, so_far.within))
+    (subst (λ (v : List ℕ). Consumes (g.H.Shelf.left c.loop-count.shelf) (g.H.Shelf.left c.read.new.self) v)
+    (sym (no_text_more piece)) c.in-Ok.ensures.bytes.0)
+    (λ f a b. fed_ended Failed _ _ _ _ _ _ _ c.in-Ok-Ended-feed.field-0 c.in-Ok-Ended-feed.field-0-is
+    (c.in-Ok-Ended-feed.ensures.fed f a b)) so_far.going
 
 pub returns-in-Err-feed-2-clause-served : goal.returns-in-Err-feed-2-clause-served
 returns-in-Err-feed-2-clause-served g c =
     let so_far = c.loop-count.invariant in
     let piece = take c.in-Ok.count c.read.new.buf in
-    stops_writing _ _ _ _ (g.H.Shelf.left c.read.new.self) _ _ _ _ _ piece [] _ so_far.setup
+    stops_writing _ _ _ _ (g.H.Shelf.left c.read.new.self) _ _ _ _ _ piece [] _ c.requires.in_range so_far.setup
     (subst (λ (v : List ℕ). Consumes (g.H.Shelf.left c.loop-count.shelf) (g.H.Shelf.left c.read.new.self) v)
     (sym (no_text_more piece)) c.in-Ok.ensures.bytes.0) c.in-Err-feed-2.ensures.fed so_far.going
 
@@ -70,9 +101,10 @@ loop-count-preserved g c =
     let piece = take c.in-Ok.count c.read.new.buf in
     let size : length piece ≡ c.in-Ok.count = length-take-le c.in-Ok.count c.read.new.buf c.in-Ok.ensures.bound.0 in
     let went = going_on _ _ _ _ _ _ _ _ _ _ _ _ piece _ so_far.setup c.in-Ok.ensures.bytes.0
-    c.in-Ok-feed-2.ensures.fed so_far.going in record {
+    (λ f a b. fed_on Failed _ _ _ _ _ _ _ c.in-Ok-On-feed.field-0 c.in-Ok-On-feed.field-0-is
+    (c.in-Ok-On-feed.ensures.fed f a b)) so_far.going in record {
       within = omega (arith, c.if-allowed-count.false, so_far.within);
-      setup = c.in-Ok-feed-2.ensures.setup ∙ so_far.setup;
+      setup = c.in-Ok-On-feed.ensures.setup ∙ so_far.setup;
       going = record {
         taken = went.taken;
         read = went.read;
@@ -82,5 +114,5 @@ loop-count-preserved g c =
       files = c.in-Ok.ensures.files ∙ so_far.files;
       opened = c.in-Ok.ensures.opened ∙ so_far.opened;
       reading = omega (arith, so_far.reading, c.in-Ok.ensures.cause.later);
-      writing = omega (arith, so_far.writing, c.in-Ok-feed-2.ensures.cause.later);
+      writing = omega (arith, so_far.writing, c.in-Ok-On-feed.ensures.cause.later);
     }

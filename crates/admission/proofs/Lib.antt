@@ -1,0 +1,9 @@
+pub mod SearchLemmas
+pub mod SplitLemmas
+pub mod PairLemmas
+pub mod CandidateLaws
+pub mod FitLaws
+pub mod NewLaws
+pub mod OwnerLaws
+pub mod FoundLaws
+pub mod TriedLaws

@@ -1,0 +1,4 @@
+pub mod FirstClear
+pub mod Clear
+pub mod Told
+pub mod Laws

@@ -1,0 +1,67 @@
+-- What is added at the end of a text, and the texts of parts by their numbers.
+use Rattle.std.specs.Prelude.{◌≡◌, ℕ, zero, suc, List, [], ◌∷◌, ◌++◌, Result, Ok, Err, slice_get, codes, if◌then◌else◌}
+use Rattle.std.specs.Option.{unwrap_or}
+use Rattle.std.specs.Fmt.{signed_decimal}
+use Rattle.eon_model.specs.Legal.{Setup}
+use Rattle.eon_model.specs.Spelling.{line}
+use Rattle.eon_model.specs.NetworkText.{number_line}
+use Rattle.eon_model.specs.Lists.{has_number}
+use Rattle.eon_model.specs.Network.{Network, Group, fibre_at}
+use Rattle.eon_model.specs.Formats.{Format}
+
+-- ---- adding
+
+-- the text begins as before
+pub record Grew (before now : List ℕ) : Type 0 where
+  pub more : List ℕ
+  pub is : now ≡ before ++ more
+
+-- these bytes were added; where memory ran out, perhaps a part of them
+abbrev pub Adds : {X E : Type 0} → Result X E → List ℕ → List ℕ → List ℕ → Type 0
+Adds (Ok x) before now bytes = now ≡ before ++ bytes
+Adds (Err e) before now bytes = Grew before now
+
+-- the words, each behind a space
+abbrev pub behind : List (List ℕ) → List ℕ
+behind [] = []
+behind (w ∷ ws) = 32 ∷ w ++ behind ws
+
+-- ---- by number
+
+-- the texts of the numbers below n, one after another
+abbrev pub each_below : (ℕ → List ℕ) → ℕ → List ℕ
+each_below text zero = []
+each_below text (suc n) = each_below text n ++ text n
+
+-- the format past the last number
+abbrev pub no_format : Format
+no_format = record { name = []; reach = 0; per = 0 }
+
+-- the format of this number
+abbrev pub format_at : List Format → ℕ → Format
+format_at formats i = unwrap_or (slice_get formats i) no_format
+
+-- the group past the last number
+abbrev pub no_group : Group
+no_group = record { name = []; fibres = [] }
+
+-- the named group of this number
+abbrev pub group_at : List Group → ℕ → Group
+group_at groups i = unwrap_or (slice_get groups i) no_group
+
+-- the fibre's name behind a space, where the named group holds it
+abbrev pub member_text : Network → ℕ → ℕ → List ℕ
+member_text net group fibre =
+    if has_number (group_at net.groups group).fibres fibre then 32 ∷ (fibre_at net.fibres fibre).name else []
+
+-- ---- the front
+
+-- the six lines before the formats
+abbrev pub front_text : Setup → List ℕ
+front_text s =
+    number_line (codes "net") 1
+    ++ line (codes "band" ∷ signed_decimal s.band.lo ∷ signed_decimal s.band.hi ∷ [])
+    ++ number_line (codes "guard") s.guard
+    ++ number_line (codes "k") s.k
+    ++ number_line (codes "services") s.services
+    ++ number_line (codes "journal") s.journal

@@ -1,0 +1,21 @@
+//! Network texts: what a text says as a setup, where a text that is none is wrong, and the text of a setup. The
+//! layers above may use `read_net` with the faults that it tells, `print_net`, and the laws of these texts.
+#![tactic(auto)]
+
+mod draft;
+pub mod fault;
+#[cfg(test)]
+mod fault_tests;
+pub mod laws;
+mod line_words;
+mod printing;
+#[cfg(test)]
+mod printing_tests;
+pub mod reading;
+#[cfg(test)]
+mod tests;
+mod word;
+
+pub use fault::{NetFault, NetRefusal, Why};
+pub use printing::print_net;
+pub use reading::read_net;

@@ -1,9 +1,0 @@
-pub mod Setups
-pub mod OneFibres
-pub mod Places
-pub mod PlaceLines
-pub mod LineReadings
-pub mod TextReading
-pub mod Views
-pub mod LimitsView
-pub mod PlaceReading

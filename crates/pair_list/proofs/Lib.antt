@@ -1,0 +1,6 @@
+pub mod PutLaws
+pub mod BanLaws
+pub mod FewLaws
+pub mod FoundLaws
+pub mod SetupLaws
+pub mod SizedLaws

@@ -1,0 +1,54 @@
+//! Routes within reach, with the slot widths that a rate needs on them.
+
+ghost use Rattle.std.specs.Prelude.{◌≡◌, ℕ, ◌<◌, ◌≤◌, length, slice_get, Option, IfOk};
+ghost use Rattle.std.specs.Option.{option_and_then};
+ghost use Rattle.eon_model.specs.Candidates.{max_reach, sized};
+ghost use Rattle.eon_model.specs.Routes.{first_routes};
+ghost use Rattle.eon_model.specs.Sets.{has_member};
+
+use eon_base::steps::Steps;
+use leg_state::Spare;
+use net_graph::{FibreSet, RouteList};
+use net_setup::NetSetup;
+use reach_table::table::need;
+use route_list::routes;
+use std::alloc::{AllocError, Global};
+use std::sync::ledger::Ledger;
+
+/// The first routes between the nodes that are within reach and use no banned fibre.
+pub(crate) fn routes_within<L: Ledger>(
+    alloc: Global,
+    setup: &NetSetup,
+    s: u8,
+    t: u8,
+    banned: &FibreSet,
+    steps: &mut Steps<L>,
+) -> Result<RouteList, AllocError>
+    requires source { s < length setup.now.network.nodes }
+    requires target { t < length setup.now.network.nodes }
+    ensures routes { IfOk result (λ rs. rs ≡ first_routes setup.now.network s t (has_member banned.now) setup.now.k (max_reach setup.now.formats)) }
+{
+    let max_km = setup.table.max_reach();
+    routes(alloc, &setup.net, s, t, banned, setup.k, max_km, steps)
+}
+
+/// The route at this place with the slot width that the rate needs; None where no format reaches so far.
+pub(crate) fn sized_at(
+    alloc: Global,
+    setup: &NetSetup,
+    rate: u32,
+    routes: &RouteList,
+    i: usize,
+) -> Result<Option<Spare>, AllocError>
+    requires place { i < length routes.now }
+    requires rate { 1 ≤ rate }
+    requires rate_limit { rate ≤ 60000 }
+    ensures { IfOk result (λ o. o ≡ option_and_then (sized setup.now rate) (slice_get routes.now i)) }
+{
+    let route = routes.at(i);
+    let Some(m) = need(&setup.table, rate, route.km()) else {
+        return Ok(None);
+    };
+    let route = route.copy(alloc)?;
+    Ok(Some(Spare { route, m }))
+}

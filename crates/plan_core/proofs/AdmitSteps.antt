@@ -1,0 +1,210 @@
+-- The answer to `admit`, cause by cause.
+use Rattle.std.proofs.Common.{◌≡◌, refl, sym, ◌∙◌, ap, subst, ℕ, zero, suc, ◌<◌, arith, true, false, List, [], ◌∷◌, ◌++◌, length, find, slice_get, Option, Some, None, not, nat_eq, ◌&&◌}
+use Rattle.std.specs.Prelude.{is_some, nat_le}
+use Rattle.std.specs.Option.{option_map, option_or}
+use Rattle.std.proofs.lemmas.Bool.{and_parts, not-false, leb-false, eqb-true, false_from_ne_true}
+use Rattle.eon_model.specs.Grid.{Units, is_band}
+use Rattle.eon_model.specs.Names.{Name}
+use Rattle.eon_model.specs.Services.{Leg, Service, State, service_of}
+use Rattle.eon_model.specs.Legal.{Setup, Legal}
+use Rattle.eon_model.specs.NetworkText.{is_setup, is_table, is_network}
+use Rattle.eon_model.specs.Numerals.{is_within}
+use Rattle.eon_model.specs.Candidates.{Candidate}
+use Rattle.eon_model.specs.FirstFit.{Placement, leg_placed, first_placement}
+use Rattle.eon_model.specs.Commands.{Demand}
+use Rattle.eon_model.specs.Replies.{Reply}
+use Rattle.eon_model.specs.Events as changes
+use Rattle.eon_model.specs.Step.{Outcome, Say, Change, or_else, ◌when◌, or_blocked, is_node, unknown_in, new_service, enters, node_numbered, admit_candidates, admit}
+use Rattle.eon_model.proofs.FindLaws.{find-none}
+use Rattle.eon_model.proofs.FollowLaws.{number_in}
+use Rattle.eon_model.proofs.ClashLaws.{no-some, none_found}
+use Rattle.eon_model.proofs.ChangeLaws.{when-none, last_fits, first_leg-IsFirst}
+use Rattle.eon_model.proofs.ToldLaws.{service-told}
+use Rattle.admission.specs.FirstClear.{first_clear}
+use Rattle.admission.specs.Laws.{FirstForNewService}
+use Rattle.admission.specs.Told.{answer_for, placement_at, IsPlaceOn}
+use Rattle.admission.specs.declared.placing.Found.{Found}
+use Rattle.admission.specs.declared.placing.Admit.TheVariants as said
+use Rattle.reply_text.specs.Tellable.{can_tell}
+use Rattle.plan_core.specs.declared.change.Change.TheVariants as change
+use Rattle.plan_core.specs.declared.change.Outcome.{Outcome as CodeOutcome}
+use Rattle.plan_core.specs.declared.change.Outcome.TheVariants as outcome
+use Rattle.plan_core.specs.Told.{event_told}
+use Rattle.plan_core.specs.Kept.{event_kept, MayEnter, IsReady}
+use Rattle.plan_core.specs.Placing.{refusal}
+use Rattle.plan_core.specs.Admitting.{tried, IsOnFirst, EntersOn}
+use Rattle.plan_core.proofs.PlaceSteps.{first-cause, past-cause, kept-told, or_else-or, or-none}
+use Rattle.plan_core.proofs.PlaceReady.{numbered-last, Plain, plain-map, plain-when}
+
+-- ---- what was found
+
+no-pairs : (n : ℕ) (found : Option Placement) → answer_for n found ≡ said.NoRoute → n ≡ 0
+no-pairs zero found h = refl
+no-pairs (suc n) None h = cc
+no-pairs (suc n) (Some p) h = cc
+
+suc-not : (n : ℕ) → nat_eq (suc n) 0 ≡ false
+suc-not n = false_from_ne_true (nat_eq (suc n) 0) (λ e. let z = eqb-true (suc n) 0 e in omega arith)
+
+blocked-pairs : (n k : ℕ) (found : Option Placement) → answer_for n found ≡ said.Blocked k →
+    (nat_eq n 0 ≡ false) × ((n ≡ k) × (found ≡ None))
+blocked-pairs zero k found h = cc
+blocked-pairs (suc n) k None h = (suc-not n, (cc, refl))
+blocked-pairs (suc n) k (Some p) h = cc
+
+placed-pairs : (n : ℕ) (f : Found) (found : Option Placement) → answer_for n found ≡ said.Placed f →
+    nat_eq n 0 ≡ false
+placed-pairs zero f found h = cc
+placed-pairs (suc n) f found h = suc-not n
+
+no-route : (n : ℕ) → n ≡ 0 → (Reply.NoRoute when nat_eq n 0) ≡ Some Reply.NoRoute
+no-route n e = ap (λ (k : ℕ). Reply.NoRoute when nat_eq k 0) e
+
+some-route : (n : ℕ) → nat_eq n 0 ≡ false → (Reply.NoRoute when nat_eq n 0) ≡ None
+some-route n e = ap (λ b. Reply.NoRoute when b) e
+
+module _ (setup : Setup) (d : Demand) (pairs : List Candidate) (found : Option Placement) where
+  pub tried-none : answer_for (length pairs) found ≡ said.NoRoute → Say Reply.NoRoute ≡ tried setup d pairs found
+  tried-none h = first-cause (Reply.NoRoute when nat_eq (length pairs) 0) Reply.NoRoute _
+      (no-route (length pairs) (no-pairs (length pairs) found h))
+
+  pub tried-blocked : (k : ℕ) → answer_for (length pairs) found ≡ said.Blocked k →
+      Say (Reply.Blocked k) ≡ tried setup d pairs found
+  tried-blocked k h =
+      let b = blocked-pairs (length pairs) k found h in
+      (λ i. or_blocked (sym b.1.0 i) (option_map leg_placed (sym b.1.1 i))
+      (λ l. Change (enters setup.network d l) (Reply.Admitted d.name)))
+      ∙ past-cause (Reply.NoRoute when nat_eq (length pairs) 0) _ (some-route (length pairs) b.0)
+
+  pub tried-leg : (list : State) (band b : Units) (ps : List Candidate) (f : Found) (c : Candidate) (leg : Leg) →
+      b ≡ band → ps ≡ pairs → IsPlaceOn (first_clear list b ps None) ps f → slice_get pairs f.pair ≡ Some c →
+      leg ≡ leg_placed (placement_at c f) →
+      option_map leg_placed (first_clear list band pairs None) ≡ Some leg
+  tried-leg list band b ps f c leg bd same on at is =
+      (λ i. option_map leg_placed (first_clear list (sym bd i) (sym same i) None))
+      ∙ ap (option_map leg_placed) (on.is_first c (ap (λ (xs : List Candidate). slice_get xs f.pair) same ∙ at))
+      ∙ ap Some (sym is)
+
+  pub tried-enters : (f : Found) (leg : Leg) (owner : Name) (s : Service) →
+      answer_for (length pairs) found ≡ said.Placed f → option_map leg_placed found ≡ Some leg → owner ≡ d.name →
+      s ≡ new_service setup.network d leg →
+      Change (event_told (event_kept (change.Enter s))) (Reply.Admitted owner) ≡ tried setup d pairs found
+  tried-enters f leg owner s h first own is =
+      (λ i. Change (changes.Event.Enter ((kept-told s ∙ ap changes.enter_text_of is) i)) (Reply.Admitted (own i)))
+      ∙ sym (ap (λ l. or_blocked (length pairs) l (λ l. Change (enters setup.network d l) (Reply.Admitted d.name))) first)
+      ∙ past-cause (Reply.NoRoute when nat_eq (length pairs) 0) _ (some-route (length pairs) (placed-pairs (length pairs) f found h))
+
+-- ---- all of it
+
+band-of : (setup : Setup) → is_setup setup ≡ true → is_band setup.band ≡ true
+band-of s h =
+    let a = and_parts (is_band s.band && nat_le s.guard 64 && is_within 1 16 s.k && is_within 1 4096 s.services
+    && is_within 4096 67108864 s.journal && is_table s.formats) (is_network s.network) h in
+    let b = and_parts (is_band s.band && nat_le s.guard 64 && is_within 1 16 s.k && is_within 1 4096 s.services
+    && is_within 4096 67108864 s.journal) (is_table s.formats) a.0 in
+    let c = and_parts (is_band s.band && nat_le s.guard 64 && is_within 1 16 s.k && is_within 1 4096 s.services)
+    (is_within 4096 67108864 s.journal) b.0 in
+    let d = and_parts (is_band s.band && nat_le s.guard 64 && is_within 1 16 s.k) (is_within 1 4096 s.services) c.0 in
+    let e = and_parts (is_band s.band && nat_le s.guard 64) (is_within 1 16 s.k) d.0 in
+    (and_parts (is_band s.band) (nat_le s.guard 64) e.0).0
+
+-- what is known where the service is not refused
+pub record MayAsk (setup : Setup) (state : State) (d : Demand) : Type 0 where
+  pub src : node_numbered setup.network d.src < length setup.network.nodes
+  pub dst : node_numbered setup.network d.dst < length setup.network.nodes
+  pub fresh : service_of state d.name ≡ None
+  pub room : length state < setup.services
+
+pub may-ask : (setup : Setup) (state : State) (d : Demand) → refusal setup state d [] ≡ None → MayAsk setup state d
+may-ask setup state d h =
+    let net = setup.network in
+    let node = unknown_in (is_node net) (d.src ∷ d.dst ∷ []) in
+    let taken = Reply.Taken d.name when is_some (service_of state d.name) in
+    let full = Reply.FullServices when nat_le setup.services (length state) in
+    let a = or-none node (option_or taken full) h in
+    let b = or-none taken full a.1 in
+    let all = find-none (λ name. not (is_node net name)) (d.src ∷ d.dst ∷ [])
+    (none_found Reply.Unknown (find (λ name. not (is_node net name)) (d.src ∷ d.dst ∷ [])) a.0) in
+    record {
+      src = number_in net.nodes d.src (not-false _ all.0);
+      dst = number_in net.nodes d.dst (not-false _ all.1.0);
+      fresh = no-some (service_of state d.name) (when-none (Reply.Taken d.name) (is_some (service_of state d.name)) b.0);
+      room = leb-false setup.services (length state)
+          (when-none Reply.FullServices (nat_le setup.services (length state)) b.1);
+    }
+
+module _ (setup : Setup) (state : State) (d : Demand) where
+  pub admit-by : or_else (refusal setup state d [])
+      (tried setup d (admit_candidates setup d) (first_placement setup (admit_candidates setup d)
+      (λ l. state ++ new_service setup.network d l ∷ []))) ≡ admit setup state d
+  admit-by =
+      let net = setup.network in
+      let node = unknown_in (is_node net) (d.src ∷ d.dst ∷ []) in
+      let taken = Reply.Taken d.name when is_some (service_of state d.name) in
+      let full = Reply.FullServices when nat_le setup.services (length state) in
+      let rest = tried setup d (admit_candidates setup d) (first_placement setup (admit_candidates setup d)
+      (λ l. state ++ new_service setup.network d l ∷ [])) in
+      or_else-or node (option_or taken full) rest ∙ ap (or_else node) (or_else-or taken full rest)
+
+  pub admit-refused : (r : Reply) → refusal setup state d [] ≡ Some r → Say r ≡ admit setup state d
+  admit-refused r h = first-cause (refusal setup state d []) r _ h ∙ admit-by
+
+  pub first-found : FirstForNewService → is_setup setup ≡ true → Legal setup state → refusal setup state d [] ≡ None →
+      first_clear state setup.band (admit_candidates setup d) None
+      ≡ first_placement setup (admit_candidates setup d) (λ l. state ++ new_service setup.network d l ∷ [])
+  first-found law ok legal none =
+      let may = may-ask setup state d none in
+      law setup state d None (band-of setup ok) legal may.room may.fresh
+
+  pub admit-tried : (o : Outcome) (pairs : List Candidate) → FirstForNewService → is_setup setup ≡ true →
+      Legal setup state → refusal setup state d [] ≡ None → pairs ≡ admit_candidates setup d →
+      o ≡ tried setup d pairs (first_clear state setup.band pairs None) → o ≡ admit setup state d
+  admit-tried o pairs law ok legal none is h =
+      h ∙ ap (λ (ps : List Candidate). tried setup d ps (first_clear state setup.band ps None)) is
+      ∙ ap (tried setup d (admit_candidates setup d)) (first-found law ok legal none)
+      ∙ past-cause (refusal setup state d []) _ none ∙ admit-by
+
+  may-enter-on : (s : Service) (found : Option Placement) → is_setup setup ≡ true → service_of state d.name ≡ None →
+      found ≡ first_placement setup (admit_candidates setup d) (λ l. state ++ new_service setup.network d l ∷ []) →
+      IsOnFirst setup d found s → MayEnter setup state s
+  may-enter-on s found ok fresh first on =
+      let one = first_leg-IsFirst setup (admit_candidates setup d) (λ l. state ++ new_service setup.network d l ∷ []) on.leg
+      (sym (ap (option_map leg_placed) first) ∙ on.first_leg) in
+      let after = subst (λ (x : Service). Legal setup (state ++ x ∷ [])) (sym on.is) one.legal in
+      record {
+        numbered = numbered-last setup state s ok after;
+        fresh = ap (λ (x : Service). service_of state x.name) on.is ∙ fresh;
+        same = ap (changes.service_told setup.network) (kept-told s)
+            ∙ service-told setup s (last_fits setup state s after)
+            (ap (λ (x : Service). x.leg.to) on.is ∙ one.still) (ap (λ (x : Service). x.next) on.is);
+        legal = after;
+      }
+
+  pub admit-ready : (o : CodeOutcome) (pairs : List Candidate) → FirstForNewService → is_setup setup ≡ true →
+      Legal setup state → refusal setup state d [] ≡ None → pairs ≡ admit_candidates setup d →
+      EntersOn o setup d (first_clear state setup.band pairs None) → IsReady setup state o
+  admit-ready (outcome.Say r) pairs law ok legal none is enters = tt
+  admit-ready (outcome.Make (change.Enter s) r) pairs law ok legal none is enters =
+      may-enter-on s (first_clear state setup.band pairs None) ok (may-ask setup state d none).fresh
+      (ap (λ (ps : List Candidate). first_clear state setup.band ps None) is ∙ first-found law ok legal none) enters
+  admit-ready (outcome.Make (change.Leave name) r) pairs law ok legal none is enters = absurd enters
+
+-- ---- the reply of a refusal
+
+plain-or : (setup : Setup) (state : State) (a b : Option Reply) → Plain setup state a → Plain setup state b →
+    Plain setup state (option_or a b)
+plain-or setup state None b f g r e = g r e
+plain-or setup state (Some q) b f g r e = f r e
+
+pub refused-tells : (setup : Setup) (state : State) (d : Demand) (r : Reply) → refusal setup state d [] ≡ Some r →
+    can_tell setup state r ≡ true
+refused-tells setup state d r h =
+    let net = setup.network in
+    let node = unknown_in (is_node net) (d.src ∷ d.dst ∷ []) in
+    let taken = Reply.Taken d.name when is_some (service_of state d.name) in
+    let full = Reply.FullServices when nat_le setup.services (length state) in
+    plain-or setup state node (option_or taken full)
+    (plain-map setup state Reply.Unknown (find (λ name. not (is_node net name)) (d.src ∷ d.dst ∷ [])) (λ x. refl))
+    (plain-or setup state taken full
+    (plain-when setup state (Reply.Taken d.name) (is_some (service_of state d.name)) refl)
+    (plain-when setup state Reply.FullServices (nat_le setup.services (length state)) refl)) r h

@@ -1,0 +1,9 @@
+pub mod KeptLaws
+pub mod NameSteps
+pub mod FaultSteps
+pub mod SharedSteps
+pub mod PlaceSteps
+pub mod PlaceReady
+pub mod ListingLaws
+pub mod AdmitSteps
+pub mod ShownLaws

@@ -1,0 +1,7 @@
+pub mod Built
+pub mod Told
+pub mod Kept
+pub mod Seen
+pub mod AskedCodes
+pub mod Placing
+pub mod Admitting

@@ -1,0 +1,111 @@
+-- The parts of the answer to `place`.
+use Rattle.std.specs.Prelude.{◌≡◌, ℕ, ℤ, nat_le, ◌&&◌, not, List, ◌∷◌, ◌++◌, [], length, map, filter, Option, Some, None, is_some, if◌then◌else◌}
+use Rattle.std.specs.Option.{option_map, option_or, option_to_list}
+use Rattle.std.specs.List.{range_with_len}
+use Rattle.eon_model.specs.declared.Part.TheVariants.{Work, Backup}
+use Rattle.eon_model.specs.Names.{Name, is_above}
+use Rattle.eon_model.specs.Sets.{NumberSet, has_member}
+use Rattle.eon_model.specs.Network.{Network, risk_name}
+use Rattle.eon_model.specs.Services.{Service, State, service_of}
+use Rattle.eon_model.specs.Legal.{Setup}
+use Rattle.eon_model.specs.Commands.{Demand, PathWords}
+use Rattle.eon_model.specs.Replies.{Reply}
+use Rattle.eon_model.specs.Step as step
+use Rattle.eon_model.specs.Step.{AskedPath, Change, or_else, clash, enters, ◌when◌, asked, path_asked, asked_leg, is_node, is_fibre, unknown_in, fault_in, walks_between, reaches_end, is_in_band, risk_between, new_service}
+use Rattle.eon_model.specs.Grid.{Slot, Units, units_of, lies_in}
+use Rattle.plan_core.specs.declared.demand.AskedPaths.{AskedPaths}
+use Rattle.plan_core.specs.declared.change.Change.TheVariants as change
+use Rattle.plan_core.specs.declared.change.Outcome.{Outcome}
+use Rattle.plan_core.specs.declared.change.Outcome.TheVariants as outcome
+
+-- the names of the fibres of all paths, as written
+abbrev pub fibres_written : List Name → Option PathWords → List Name
+fibres_written work None = work
+fibres_written work (Some back) = work ++ back.fibres
+
+-- the reply for a name that is taken, or else for a full list
+abbrev pub no_room : Setup → State → Name → Option Reply
+no_room setup state name =
+    option_or (Reply.Taken name when is_some (service_of state name))
+    (Reply.FullServices when nat_le setup.services (length state))
+
+-- the reply before a path is looked at: an unknown name, a name that is taken, or a full list
+abbrev pub refusal : Setup → State → Demand → List Name → Option Reply
+refusal setup state d fibres =
+    option_or (unknown_in (is_node setup.network) (d.src ∷ d.dst ∷ []))
+    (option_or (unknown_in (is_fibre setup.network) fibres) (no_room setup state d.name))
+
+-- the paths that these words ask for
+abbrev pub paths_asked : Network → PathWords → Option PathWords → AskedPaths
+paths_asked net work back = record { work = asked net Work work; back = option_map (asked net Backup) back }
+
+-- the working path, and then the backup path
+abbrev pub paths_listed : AskedPaths → List AskedPath
+paths_listed p = p.work ∷ option_to_list p.back
+
+-- the path that these words ask for, where it is a route
+abbrev pub path_if_walks : Network → Demand → AskedPath → Option AskedPath
+path_if_walks net d p = if walks_between net d p then Some p else None
+
+abbrev pub path_fault : Network → Demand → AskedPaths → Option Reply
+path_fault net d p = fault_in Reply.Path (λ p. not (walks_between net d p)) (paths_listed p)
+
+abbrev pub reach_fault : Setup → Demand → AskedPaths → Option Reply
+reach_fault setup d p = fault_in Reply.Reach (λ p. not (reaches_end setup d p)) (paths_listed p)
+
+abbrev pub risk_fault : Network → AskedPaths → Option Reply
+risk_fault net p = risk_between net p.work.route p.back
+
+abbrev pub band_fault : Setup → Demand → AskedPaths → Option Reply
+band_fault setup d p = fault_in Reply.Band (λ p. not (is_in_band setup d p)) (paths_listed p)
+
+-- the reply for paths that are routes, before other services are looked at
+abbrev pub fault_of : Setup → Demand → AskedPaths → Option Reply
+fault_of setup d p =
+    option_or (reach_fault setup d p) (option_or (risk_fault setup.network p) (band_fault setup d p))
+
+-- the slot with this centre and width, where it lies in the band
+abbrev pub slot_in_band : Units → ℤ → ℕ → Option Slot
+slot_in_band band n m =
+    let s : Slot = record { n = n; m = m } in if lies_in band (units_of s) then Some s else None
+
+-- the slot of a path within reach and in the band
+abbrev pub slot_if_fits : Setup → Demand → AskedPath → Option Slot
+slot_if_fits setup d p =
+    if reaches_end setup d p && is_in_band setup d p then Some (path_asked setup d p).slot else None
+
+-- ---- shared groups
+
+-- the lesser of a name and another one, if there is one
+abbrev pub lesser : Option Name → Name → Name
+lesser None a = a
+lesser (Some b) a = if is_above b a then a else b
+
+-- the names of the groups below this number that are in both sets
+abbrev pub shared_below : Network → NumberSet → NumberSet → ℕ → List Name
+shared_below net s t n =
+    map (risk_name net) (filter (λ i. has_member s i && has_member t i) (range_with_len 0 n))
+
+-- the least name so far, and that of the group of this number, where it is in both sets
+abbrev pub least_with : Network → NumberSet → NumberSet → ℕ → Option Name → Option Name
+least_with net s t i least =
+    if has_member s i && has_member t i then Some (lesser least (risk_name net i)) else least
+
+-- ---- what enters
+
+-- where something changes, this service enters
+abbrev pub EntersOnly : Outcome → Service → Type 0
+EntersOnly (outcome.Say reply) s = Unit {0}
+EntersOnly (outcome.Make (change.Enter service) reply) s = service ≡ s
+EntersOnly (outcome.Make (change.Leave name) reply) s = ⊥
+
+-- the service that `place` asks for
+abbrev pub service_asked : Setup → Demand → AskedPaths → Service
+service_asked setup d p = new_service setup.network d (asked_leg setup d p.work p.back)
+
+-- the answer where there is room for a service and its paths are routes
+abbrev pub placed_on : Setup → State → Demand → AskedPaths → step.Outcome
+placed_on setup state d p =
+    or_else (fault_of setup d p)
+    (or_else (clash state d.name (asked_leg setup d p.work p.back))
+    (Change (enters setup.network d (asked_leg setup d p.work p.back)) (Reply.Placed d.name)))

@@ -1,0 +1,25 @@
+//! Which commands are built.
+ghost use Rattle.std.specs.Prelude.{◌≡◌};
+ghost use Rattle.command_text.specs.Told.{told};
+ghost use Rattle.plan_core.specs.Built.{is_built};
+
+use command_text::Command;
+
+/// Whether the command is built. The others are answered `later`.
+pub fn is_built(command: &Command) -> bool
+    ensures { result ≡ is_built (told command.now) }
+{
+    match command {
+        Command::Place { .. }
+        | Command::Admit { .. }
+        | Command::Release { .. }
+        | Command::Show { .. }
+        | Command::List
+        | Command::Map { .. }
+        | Command::Stats
+        | Command::Report
+        | Command::Routes { .. }
+        | Command::Quit => true,
+        _ => false,
+    }
+}

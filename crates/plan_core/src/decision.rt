@@ -1,0 +1,12 @@
+//! What a command comes to.
+use crate::event::Event;
+use reply_text::Reply;
+
+/// What a command comes to.
+#[derive(Drop)]
+pub enum Decision {
+    /// A reply alone.
+    Say { reply: Reply },
+    /// A change, and the reply that it has once it stands.
+    Change { event: Event, reply: Reply },
+}

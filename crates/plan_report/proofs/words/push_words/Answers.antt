@@ -1,0 +1,7 @@
+use Rattle.plan_report.proofs.WordLemmas.{words-more}
+use Rattle.plan_report.proofs.words.push_words.Goals as goal
+
+pub loop-word-preserved : goal.loop-word-preserved
+loop-word-preserved c =
+    words-more _ _ _ c.args.words.now c.loop-word.word-index _ c.loop-word-test.true c.loop-word.invariant
+    c.in_ok-push_word.ensures

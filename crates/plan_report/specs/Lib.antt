@@ -1,0 +1,4 @@
+pub mod Counted
+pub mod Mapped
+pub mod InRange
+pub mod Reported

@@ -1,0 +1,16 @@
+//! What is told of a state as a whole: its totals, the map of a fibre, and the report. The layer above prints
+//! a `Text` as it stands, and `Stats` as one line.
+#![tactic(auto)]
+
+pub(crate) mod lines;
+pub mod map;
+pub mod report;
+pub mod rows;
+pub(crate) mod span;
+pub mod stats;
+pub mod text;
+pub mod totals;
+pub(crate) mod words;
+
+pub use stats::Stats;
+pub use text::Text;

@@ -1,0 +1,4 @@
+pub mod SentLaws
+pub mod WordLaws
+pub mod InRangeLaws
+pub mod ListingLaws

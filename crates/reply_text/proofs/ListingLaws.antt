@@ -1,0 +1,71 @@
+-- Lines that are taken one after the other.
+use Rattle.std.proofs.Common.{◌≡◌, sym, ◌∙◌, ap, ℕ, ◌+◌, ◌<◌, List, [], ◌∷◌, ◌++◌, length, take, get_or, codes, append_assoc, arith}
+use Rattle.std.specs.Prelude.{true, nat_lt, slice_get, Some, is_some, IsTrue}
+use Rattle.std.specs.List.{flat_map, list_all, AllByRecursion}
+use Rattle.std.proofs.lemmas.Bool.{and_parts, ltb-true}
+use Rattle.eon_model.specs.Formats.{format_for}
+use Rattle.eon_model.proofs.ListLaws.{slice_get_in}
+use Rattle.eon_model.proofs.Members.{list_all-at}
+use Rattle.reply_text.specs.Tellable.{can_show}
+use Rattle.std.specs.Fmt.{decimal}
+use Rattle.std.proofs.lemmas.Grind.{flat_map-append}
+use Rattle.std.proofs.lemmas.List.{append-nil, take_more, length-take-le}
+use Rattle.eon_model.specs.Legal.{Setup}
+use Rattle.eon_model.specs.Network.{names_of_fibres, AreFibres}
+use Rattle.eon_model.specs.Route.{Route}
+use Rattle.eon_model.specs.ReplyText.{format_name, route_lines}
+use Rattle.eon_model.specs.Spelling.{line, fibre_list}
+use Rattle.reply_text.specs.Sent.{Sent, Takes}
+use Rattle.reply_text.proofs.SentLaws.{takes-both, takes-same}
+
+-- the text of one more
+pub next_text : {X : Type 0} (f : X → List ℕ) (xs : List X) (i : ℕ) (x : X) (a b c : Sent) → i < length xs →
+    x ≡ get_or xs i x → Takes a b (flat_map f (take i xs)) → Takes b c (f x) → Takes a c (flat_map f (take (i + 1) xs))
+next_text f xs i x a b c l e p q = takes-same a c _ _
+    (ap (λ v. flat_map f (take i xs) ++ v) (sym (append-nil (f x))) ∙ sym (flat_map-append f (take i xs) (x ∷ []))
+    ∙ ap (λ y. flat_map f (take i xs ++ y ∷ [])) e ∙ ap (flat_map f) (sym (take_more xs i x l)))
+    (takes-both a b c _ _ p q)
+
+-- the line of a route
+abbrev pub route_line : Setup → ℕ → Route → List ℕ
+route_line setup rank r =
+    line (codes "route" ∷ decimal rank ∷ decimal r.km ∷ format_name setup.formats r.km
+    ∷ fibre_list (names_of_fibres setup.network.fibres r.fibres) ∷ [])
+
+lines-push : (setup : Setup) (n m : ℕ) (rs : List Route) (r : Route) → m ≡ n + length rs →
+    route_lines setup n (rs ++ r ∷ []) ≡ route_lines setup n rs ++ route_line setup m r
+lines-push setup n m [] r e =
+    let same : n ≡ m = omega arith in append-nil (route_line setup n r) ∙ ap (λ k. route_line setup k r) same
+lines-push setup n m (s ∷ rs) r e =
+    let same : m ≡ (n + 1) + length rs = omega arith in
+    ap (λ v. route_line setup n s ++ v) (lines-push setup (n + 1) m rs r same)
+    ∙ sym (append_assoc (route_line setup n s) (route_lines setup (n + 1) rs) (route_line setup m r))
+
+-- ---- routes that can be shown
+
+numbers_in : (n : ℕ) (xs : List ℕ) → list_all (λ i. nat_lt i n) xs ≡ true → AllByRecursion (λ i. i < n) xs
+numbers_in n [] h = tt
+numbers_in n (x ∷ xs) h =
+    let p = and_parts (nat_lt x n) (list_all (λ i. nat_lt i n) xs) h in (ltb-true x n p.0, numbers_in n xs p.1)
+
+-- the fibres of the route at a place
+pub shown_at : (setup : Setup) (rs : List Route) (i : ℕ) (r : Route) → IsTrue (list_all (can_show setup) rs) →
+    slice_get rs i ≡ Some r → AreFibres setup.network.fibres r.fibres
+shown_at setup rs i r h e =
+    let here = list_all-at (can_show setup) rs r h (slice_get_in rs i r e).1 in
+    numbers_in (length setup.network.fibres) r.fibres
+    (and_parts (list_all (λ i. nat_lt i (length setup.network.fibres)) r.fibres) (is_some (format_for setup.formats r.km)) here).0
+
+-- the line of one route more
+pub next_route : (setup : Setup) (rs : List Route) (i : ℕ) (r : Route) (a b c : Sent) → i < length rs →
+    r ≡ get_or rs i r → Takes a b (route_lines setup 1 (take i rs)) →
+    Takes b c (line (codes "route" ∷ decimal (i + 1) ∷ decimal r.km ∷ format_name setup.formats r.km
+    ∷ fibre_list (names_of_fibres setup.network.fibres r.fibres) ∷ [])) →
+    Takes a c (route_lines setup 1 (take (i + 1) rs))
+next_route setup rs i r a b c l e p q =
+    let n = length-take-le i rs (omega arith) in
+    let rank : i + 1 ≡ 1 + length (take i rs) = omega arith in
+    takes-same a c _ _
+    (sym (lines-push setup 1 (i + 1) (take i rs) r rank)
+    ∙ ap (λ y. route_lines setup 1 (take i rs ++ y ∷ [])) e ∙ ap (route_lines setup 1) (sym (take_more rs i r l)))
+    (takes-both a b c _ _ p q)

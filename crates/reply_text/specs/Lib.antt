@@ -1,0 +1,5 @@
+pub mod InRange
+pub mod Replied
+pub mod Sent
+pub mod Tellable
+pub mod Words

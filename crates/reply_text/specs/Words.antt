@@ -1,0 +1,12 @@
+-- The words of a line, one after the other.
+use Rattle.std.specs.Prelude.{ℕ, List, [], ◌∷◌, ◌++◌}
+
+-- the words, each behind a space
+unfoldable pub behind : List (List ℕ) → List ℕ
+behind [] = []
+behind (w ∷ ws) = 32 ∷ w ++ behind ws
+
+-- the bytes, each text behind a comma
+unfoldable pub behind_commas : List (List ℕ) → List ℕ
+behind_commas [] = []
+behind_commas (w ∷ ws) = 44 ∷ w ++ behind_commas ws

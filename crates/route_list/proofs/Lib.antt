@@ -1,0 +1,7 @@
+pub mod StandLaws
+pub mod WalkOrder
+pub mod CountLaws
+pub mod SearchLaws
+pub mod EndLaws
+pub mod GrowLaws
+pub mod TakeLaws
