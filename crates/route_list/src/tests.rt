@@ -1,4 +1,5 @@
 //! Routes of small networks, each list by hand.
+mod plain;
 
 ghost use Rattle.std.specs.Prelude.{◌≡◌, ◌<◌, ◌≤◌, length, [], OnOk, IfOk, IsTrue};
 
