@@ -5,15 +5,7 @@ lines=${1:-1000000}
 top=$(cd "$(dirname "$0")/.." && pwd)
 work=$(mktemp -d)
 trap 'rm -rf "$work"' EXIT
-awk -v n="$lines" 'BEGIN {
-    for (i = 0; i < n / 5; i++) {
-        printf "admit service-%d nowhere-%d nobody 100 shared\n", i, i
-        printf "release service-%d\n", i
-        printf "push service-%d -%d\n", i, i % 4096 + 1
-        printf "place service-%d A Z 60000 shared ab,ac,bc -%d cd,da %d\n", i, i % 4096 + 1, i % 4096
-        printf "show service-%d \n", i
-    }
-}' >"$work/commands"
+"$top/bench/mixed_lines.sh" "$lines" >"$work/commands"
 "$top/eonplan" dry "$top/examples/ring/q.net" /dev/null
 start=$(date +%s.%N)
 "$top/eonplan" dry "$top/examples/ring/q.net" "$work/commands" >"$work/out"
