@@ -26,7 +26,7 @@ pub record BandFacts (band : Units) : Type 0 where
   pub high : band.hi ≤ℤ pos 4095
   pub wide : (band.hi -ℤ band.lo) ≤ℤ pos 1023
 
-band-facts : (band : Units) → is_band band ≡ true → BandFacts band
+pub band-facts : (band : Units) → is_band band ≡ true → BandFacts band
 band-facts band h =
     let units = units-facts band (band-units band h) in
     record {
@@ -36,7 +36,7 @@ band-facts band h =
     }
 
 -- in a band, what is at least 1 wide is a slot
-slot_in : (band : Units) (slot : Slot) → is_band band ≡ true → 1 ≤ slot.m →
+pub slot_in : (band : Units) (slot : Slot) → is_band band ≡ true → 1 ≤ slot.m →
     lies_in band (units_of slot) ≡ true → is_slot slot ≡ true
 slot_in band slot r one h =
     let facts = band-facts band r in

@@ -1,4 +1,9 @@
-pub mod SearchLemmas
+pub mod UnitLemmas
+pub mod FreeLaws
+pub mod PassLaws
+pub mod RunLaws
+pub mod WalkLaws
+pub mod HoldingLaws
 pub mod SplitLemmas
 pub mod PairLemmas
 pub mod CandidateLaws

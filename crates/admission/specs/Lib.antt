@@ -1,4 +1,5 @@
 pub mod FirstClear
 pub mod Clear
+pub mod Free
 pub mod Told
 pub mod Laws

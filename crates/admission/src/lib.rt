@@ -2,10 +2,12 @@
 //! layer above asks `first` and cites the laws of `laws`, which say that its answer is the planner's.
 #![tactic(auto)]
 
-mod clear;
 pub mod laws;
 pub mod placing;
+mod row;
 mod search;
+mod span;
+mod taken;
 #[cfg(test)]
 mod tests;
 

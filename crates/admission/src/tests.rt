@@ -192,3 +192,27 @@ fn a_second_leg_may_share_the_backup_of_the_first(rt: HostRuntime) -> Result<(),
     );
     Ok(())
 }
+
+// Beside services on the units -16 to -13 and -8 to -5.
+#[test]
+fn bands_end_beside_taken_units(rt: HostRuntime) -> Result<(), Fail> {
+    let net = network(&rt, false)?;
+    let mut services = Services::new(rt.alloc());
+    enter(&rt, &mut services, &net, b"p", 1, &[0], &[], -14)?;
+    enter(&rt, &mut services, &net, b"q", 1, &[0], &[], -6)?;
+    for (lo, hi, m, answer) in [
+        (-15, -9, 2, placed(0, -10, None)),
+        (-15, -7, 2, placed(0, -10, None)),
+        (-16, -5, 3, Admit::Blocked { pairs: 1 }),
+        (-16, -3, 1, placed(0, -11, None)),
+        (-7, -3, 1, placed(0, -3, None)),
+        (-16, -13, 1, Admit::Blocked { pairs: 1 }),
+        (0, 0, 1, Admit::Blocked { pairs: 1 }),
+        (0, 1, 1, placed(0, 1, None)),
+    ] {
+        let band = Band::make(lo, hi).ok_or("no band")?;
+        let pairs = [pair(&rt, &net, 1, &[0], &[], m)?];
+        assert_eq!(rt; first(&services, band, &pairs, None), answer);
+    }
+    Ok(())
+}

@@ -2,7 +2,7 @@ use Rattle.std.proofs.Common.{◌∙◌, ap}
 use Rattle.std.specs.Cmp.Lexicographic.{texts_ties}
 use Rattle.eon_model.specs.Names.{same_name}
 use Rattle.eon_model.specs.Services.{Service}
-use Rattle.admission.proofs.clear.has_name.Goals as goal
+use Rattle.admission.proofs.taken.has_name.Goals as goal
 
 pub returns : goal.returns
 returns c =

@@ -1,0 +1,101 @@
+//! A row of the units of a band, each taken or free for one path.
+
+ghost use Rattle.std.specs.Prelude.{◌≡◌, ℕ, ◌<◌, ◌≤◌, nat_abs, ◌-ℤ◌, ◌≤ℤ◌, nat_le, nat_lt, true, false, not, ◌&&◌, ◌||◌, length, slice_index_or, find};
+ghost use Rattle.eon_model.specs.Grid.{units_of, unit_count, overlaps};
+ghost use Rattle.eon_model.specs.FirstFit.{centres_in};
+ghost use Rattle.admission.specs.FirstClear.{stands_in};
+ghost use Rattle.admission.specs.Free.{are_free, IsFreeWhere, Takes, IsRunFound};
+
+use crate::span::Span;
+use flex_grid::band::Band;
+
+/// The greatest number of units of a band.
+const MOST_UNITS: usize = 1024;
+
+// The units of a band, the lowest first, each taken or not for one path.
+#[derive(Drop)]
+pub(crate) struct Row {
+    band: Band,
+    taken: [bool; MOST_UNITS],
+}
+
+// Takes the places from the first one up to the end.
+fn take_places(taken: &mut [bool], first: usize, end: usize)
+    requires order { first ≤ end }
+    requires within { end ≤ length taken.old }
+    ensures { (i : ℕ) → i < length taken.old → slice_index_or taken.new i false ≡ (slice_index_or taken.old i false || (nat_le first i && nat_lt i end)) }
+{
+    taken[first..end].fill(true);
+}
+
+// The first place where a run of so many free places ends.
+fn first_run(taken: &[bool], width: usize) -> Option<usize>
+    requires { 1 ≤ width }
+    ensures { IsRunFound taken.now width result }
+{
+    let mut run = 0;
+    for (place, is_taken) in taken.iter().enumerate() {
+        run = if *is_taken { 0 } else { run + 1 };
+        if run == width {
+            return Some(place);
+        }
+    }
+    None
+}
+
+impl Row {
+    // The units of the band, none of them taken.
+    pub(crate) fn new(band: &Band) -> Row
+        ensures { IsFreeWhere result band.now (λ s. true) }
+    {
+        Row {
+            band: *band,
+            taken: [false; MOST_UNITS],
+        }
+    }
+
+    // The place of a unit of the band.
+    fn place(&self, unit: i32) -> usize
+        requires low { self.now.band.lo ≤ℤ unit }
+        requires high { unit ≤ℤ self.now.band.hi }
+        ensures place { result ≡ nat_abs (unit -ℤ self.now.band.lo) }
+        ensures few { result < MOST_UNITS }
+    {
+        (unit - i32::from(self.band.lo())) as usize
+    }
+
+    // How many units the band has.
+    fn len(&self) -> usize
+        ensures count { result ≡ unit_count self.now.band }
+        ensures few { result ≤ MOST_UNITS }
+    {
+        self.place(i32::from(self.band.hi())) + 1
+    }
+
+    // Takes all units from one to another, as far as they lie in the band.
+    pub(crate) fn take(&mut self, span: &Span)
+        requires { span.now.lo ≤ℤ span.now.hi }
+        ensures { Takes self.old self.new (λ s. not (overlaps s span.now)) }
+    {
+        let from = span.lo().max(i32::from(self.band.lo()));
+        let to = span.hi().min(i32::from(self.band.hi()));
+        if from <= to {
+            let first = self.place(from);
+            let end = self.place(to) + 1;
+            take_places(&mut self.taken, first, end);
+        }
+    }
+
+    // The least centre at which a slot of this width lies in the band with no unit taken. The units are walked
+    // upwards once: where a run of free ones is as long as the slot, the slot ends.
+    pub(crate) fn least_centre(&self, m: u16) -> Option<i16>
+        ensures { result ≡ find (λ n. stands_in self.now.band (record { n = n; m = m }) && are_free self.now (units_of (record { n = n; m = m }))) (centres_in self.now.band) }
+    {
+        if m == 0 {
+            return None;
+        }
+        let lo = i32::from(self.band.lo());
+        let last = first_run(&self.taken[..self.len()], 2 * usize::from(m))?;
+        Some((lo + 1 + last as i32 - i32::from(m)) as i16)
+    }
+}
