@@ -1,28 +1,28 @@
 -- Counts that grow by what some holdings hold.
-use Rattle.std.proofs.Common.{◌≡◌, refl, sym, ap, ◌∙◌, add-one, ℕ, zero, suc, ◌+◌, ◌*◌, ◌<◌, ◌≤◌, nat_le, nat_lt, ℤ, pos, ◌+ℤ◌, ◌-ℤ◌, ◌≤ℤ◌, Bool, true, false, cond, ◌&&◌, ◌||◌, List, [], ◌∷◌, ◌++◌, length, take, Option, Some, None, slice_get, slice_index, count_by, sum_by, map, append_assoc, length-append, arith}
+use Rattle.std.proofs.Common.{◌≡◌, refl, sym, ap, ◌∙◌, add-one, ℕ, zero, suc, ◌+◌, ◌*◌, ◌<◌, ◌≤◌, nat_le, nat_lt, ℤ, pos, ◌+ℤ◌, ◌-ℤ◌, Bool, true, false, cond, ◌&&◌, ◌||◌, List, [], ◌∷◌, ◌++◌, length, take, Option, Some, None, slice_get, slice_index, count_by, sum_by, map, append_assoc, length-append, arith}
 use Rattle.std.specs.Prelude.{int_le}
 use Rattle.std.specs.Option.{option_to_list}
 use Rattle.std.specs.Int.{int_min, int_max}
 use Rattle.std.specs.List.{flat_map, list_any, range_with_len}
-use Rattle.std.proofs.lemmas.Bool.{and_parts, leb-true, ltb-true, le-leb, lt-ltb}
+use Rattle.std.proofs.lemmas.Bool.{leb-true, ltb-true, le-leb, lt-ltb}
 use Rattle.std.proofs.lemmas.Int.{ints, clamps}
 use Rattle.std.proofs.lemmas.List.Sums.{sum_by-append, sum_by-cons, sum_by_push, sum_by_more, count_by-le-length}
 use Rattle.std.proofs.lemmas.List.{map-append}
 use Rattle.std.proofs.lemmas.Grind.{flat_map-append}
 use Rattle.std.proofs.lemmas.Option.{slice_get_within, get_or_from_slice_get}
-use Rattle.eon_model.specs.Grid.{Units, has_unit, is_band}
+use Rattle.eon_model.specs.Grid.{Units, has_unit}
 use Rattle.eon_model.specs.Legal.{Setup, Legal}
-use Rattle.eon_model.specs.NetworkText.{is_setup, is_table, is_network}
-use Rattle.eon_model.specs.Numerals.{is_within}
+use Rattle.eon_model.specs.NetworkText.{is_setup}
 use Rattle.eon_model.proofs.LegalLaws.{Legal-parts}
 use Rattle.eon_model.specs.Names.{Name}
 use Rattle.eon_model.specs.Lists.{integers_from}
-use Rattle.eon_model.specs.Services.{Path, Leg, Service, State, Holding, OwnedLeg, legs_of, owned_legs, all_legs, holding_of, working_holding, backup_holdings}
+use Rattle.eon_model.specs.Services.{Path, Leg, Service, State, Holding, OwnedLeg, owned_legs, all_legs, holding_of, working_holding, backup_holdings}
 use Rattle.eon_model.specs.Listings.{holds, working_holdings, all_backups}
 use Rattle.eon_model.proofs.GridLaws.{int_le-le, le-int_le}
 use Rattle.plan_report.specs.declared.rows.Kind.{Kind}
 use Rattle.plan_report.specs.declared.rows.Kind.TheVariants.{Work, Backup}
-use Rattle.plan_report.specs.Counted.{held_by, service_holdings, state_holdings, one_if, holders, Grows, AtMost}
+use Rattle.plan_report.proofs.SetupFacts.{setup-facts}
+use Rattle.plan_report.specs.Counted.{held_by, service_holdings, state_holdings, holders, Grows, AtMost}
 
 pub same_tests : (a b : Bool) → (a ≡ true → b ≡ true) → (b ≡ true → a ≡ true) → a ≡ b
 same_tests true b f g = sym (f refl)
@@ -218,17 +218,6 @@ row_units fibre hs a b m n counts r e k low len =
 pub few_services : (setup : Setup) (state : State) → is_setup setup ≡ true → Legal setup state →
     length state ≤ 65535
 few_services setup state h l =
-    let p = Legal-parts setup state l in
-    let few = p.few in
-    let a = and_parts (is_band setup.band && nat_le setup.guard 64 && is_within 1 16 setup.k
-    && is_within 1 4096 setup.services && is_within 4096 67108864 setup.journal && is_table setup.formats)
-    (is_network setup.network) h in
-    let b = and_parts (is_band setup.band && nat_le setup.guard 64 && is_within 1 16 setup.k
-    && is_within 1 4096 setup.services && is_within 4096 67108864 setup.journal) (is_table setup.formats) a.0 in
-    let d = and_parts (is_band setup.band && nat_le setup.guard 64 && is_within 1 16 setup.k
-    && is_within 1 4096 setup.services) (is_within 4096 67108864 setup.journal) b.0 in
-    let e = and_parts (is_band setup.band && nat_le setup.guard 64 && is_within 1 16 setup.k)
-    (is_within 1 4096 setup.services) d.0 in
-    let w = and_parts (nat_le 1 setup.services) (nat_le setup.services 4096) e.1 in
-    let most = leb-true setup.services 4096 w.1 in
+    let few = (Legal-parts setup state l).few in
+    let most = (setup-facts setup h).few_services in
     omega arith

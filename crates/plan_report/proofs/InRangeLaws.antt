@@ -115,3 +115,13 @@ service-on setup state s ok legal i =
 pub service_at-on : (setup : Setup) (state : State) (i : ℕ) (s : Service) → is_setup setup ≡ true → Legal setup state →
     slice_get state i ≡ Some s → ServiceInRange setup.network s
 service_at-on setup state i s ok legal e = service-on setup state s ok legal (slice_get_in state i s e).1
+
+-- the service that is found
+pub found-on : (setup : Setup) (state : State) (name : Name) (s : Service) → is_setup setup ≡ true → Legal setup state →
+    service_of state name ≡ Some s → ServiceInRange setup.network s
+found-on setup state name s ok legal e = elim (found (λ (x : Service). same_name x.name name) state) [
+  | inl none ↦ let n = none.0 in cc
+  | inr some ↦ let at = some.1 in
+      let same : some.0 ≡ s = cc in
+      service-on setup state s ok legal (subst (λ (v : Service). IsIn v state) same some.2)
+]

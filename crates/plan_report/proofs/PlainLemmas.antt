@@ -1,6 +1,6 @@
 -- JSON of names, whole numbers, lists and objects, as its text.
-use Rattle.std.proofs.Common.{◌≡◌, refl, sym, ap, ◌∙◌, ℕ, ℤ, pos, negsuc, ◌≤◌, ◌<◌, Bool, true, false, cond, ◌&&◌, ◌||◌, List, [], ◌∷◌, ◌++◌, map, length, zero, suc, slice_index, nat_eq, nat_lt, append_assoc, decimal, arith}
-use Rattle.std.specs.Prelude.{⊤, nat_le, ◌==◌}
+use Rattle.std.proofs.Common.{◌≡◌, refl, sym, ap, ◌∙◌, ℕ, ℤ, pos, negsuc, ◌≤◌, ◌<◌, true, false, ◌&&◌, List, [], ◌∷◌, ◌++◌, map, length, zero, suc, slice_index, nat_lt, append_assoc, decimal, arith}
+use Rattle.std.specs.Prelude.{⊤, nat_le}
 use Rattle.std.specs.Fmt.{signed_decimal}
 use Rattle.std.specs.List.{list_all, join_with_byte}
 use Rattle.std.specs.Str.{IsUtf8}

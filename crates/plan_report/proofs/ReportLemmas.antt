@@ -1,7 +1,6 @@
 -- The text of a report.
-use Rattle.std.proofs.Common.{◌≡◌, refl, sym, ap, ◌∙◌, ℕ, zero, suc, ◌+◌, ℤ, Bool, true, ◌&&◌, not, List, [], ◌∷◌, ◌++◌, map, length, take, slice_get, Option, Some, None, nat_lt, decimal}
+use Rattle.std.proofs.Common.{◌≡◌, refl, sym, ap, ◌∙◌, ℕ, zero, suc, ◌+◌, Bool, true, ◌&&◌, not, List, [], ◌∷◌, ◌++◌, map, length, take, slice_get, Option, Some, None, nat_lt}
 use Rattle.std.specs.Prelude.{codes, ◌==◌}
-use Rattle.std.specs.Option.{unwrap_or, option_to_list}
 use Rattle.std.specs.Fmt.{signed_decimal}
 use Rattle.std.specs.List.{list_all}
 use Rattle.std.proofs.lemmas.Bool.{and_parts, and_from}
@@ -26,7 +25,7 @@ use Rattle.eon_model.specs.Listings.{centre_mhz, class_word, path_json, or_null,
 use Rattle.eon_model.specs.Replies.{Totals}
 use Rattle.eon_model.specs.Json as json
 use Rattle.eon_model.proofs.OrderLaws.{AllOf}
-use Rattle.eon_model.proofs.SetupLaws.{NetworkParts, network-parts, setup-network}
+use Rattle.eon_model.proofs.SetupLaws.{network-parts, setup-network}
 use Rattle.plan_report.specs.Reported.{integer_data, fibre_data, data_or_null, path_data, leg_data, service_data, totals_data, band_data, report_data}
 use Rattle.plan_report.proofs.PlainLemmas.{IsPlain, ItemsPlain, MembersPlain, name_same, plain-null, plain-unsigned, plain-integer, plain-string, plain-array, plain-map, plain-object}
 

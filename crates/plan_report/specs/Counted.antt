@@ -1,5 +1,5 @@
 -- How many holdings hold each unit of a band on a fibre.
-use Rattle.std.specs.Prelude.{◌≡◌, ℕ, ◌+◌, ◌<◌, ◌≤◌, nat_le, nat_lt, ℤ, pos, ◌+ℤ◌, Bool, ◌&&◌, List, [], ◌∷◌, length, map, count_by, slice_index, if◌then◌else◌}
+use Rattle.std.specs.Prelude.{◌≡◌, ℕ, ◌+◌, ◌<◌, ◌≤◌, ℤ, pos, ◌+ℤ◌, Bool, List, [], ◌∷◌, length, count_by, slice_index, if◌then◌else◌}
 use Rattle.std.specs.List.{flat_map}
 use Rattle.eon_model.specs.Services.{Leg, Service, State, Holding, legs_of, working_holding, backup_holdings}
 use Rattle.eon_model.specs.Listings.{holds}

@@ -2,3 +2,4 @@ pub mod Counted
 pub mod Mapped
 pub mod InRange
 pub mod Reported
+pub mod Words

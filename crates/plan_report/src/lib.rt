@@ -2,12 +2,16 @@
 //! a `Text` as it stands, and `Stats` as one line.
 #![tactic(auto)]
 
+#[cfg(test)]
+mod fixtures;
 pub(crate) mod lines;
 pub mod map;
 pub mod report;
 pub mod rows;
 pub(crate) mod span;
 pub mod stats;
+#[cfg(test)]
+mod tests;
 pub mod text;
 pub mod totals;
 pub(crate) mod words;

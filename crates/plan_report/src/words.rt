@@ -1,7 +1,7 @@
 //! Lines of words.
 ghost use Rattle.std.specs.Prelude.{◌≡◌, [], ◌∷◌, ◌++◌, map, OnOk};
 ghost use Rattle.eon_model.specs.Spelling.{line};
-ghost use Rattle.plan_report.specs.Mapped.{behind};
+ghost use Rattle.plan_report.specs.Words.{behind};
 
 use std::alloc::AllocError;
 

@@ -1,4 +1,3 @@
 pub mod SentLaws
 pub mod WordLaws
-pub mod InRangeLaws
 pub mod ListingLaws

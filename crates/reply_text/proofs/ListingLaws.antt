@@ -1,5 +1,5 @@
 -- Lines that are taken one after the other.
-use Rattle.std.proofs.Common.{◌≡◌, sym, ◌∙◌, ap, ℕ, ◌+◌, ◌<◌, List, [], ◌∷◌, ◌++◌, length, take, get_or, codes, append_assoc, arith}
+use Rattle.std.proofs.Common.{◌≡◌, add-one, sym, ◌∙◌, ap, ℕ, ◌+◌, ◌<◌, List, [], ◌∷◌, ◌++◌, length, take, get_or, codes, append_assoc, arith}
 use Rattle.std.specs.Prelude.{true, nat_lt, slice_get, Some, is_some, IsTrue}
 use Rattle.std.specs.List.{flat_map, list_all, AllByRecursion}
 use Rattle.std.proofs.lemmas.Bool.{and_parts, ltb-true}
@@ -8,23 +8,21 @@ use Rattle.eon_model.proofs.ListLaws.{slice_get_in}
 use Rattle.eon_model.proofs.Members.{list_all-at}
 use Rattle.reply_text.specs.Tellable.{can_show}
 use Rattle.std.specs.Fmt.{decimal}
-use Rattle.std.proofs.lemmas.Grind.{flat_map-append}
 use Rattle.std.proofs.lemmas.List.{append-nil, take_more, length-take-le}
 use Rattle.eon_model.specs.Legal.{Setup}
 use Rattle.eon_model.specs.Network.{names_of_fibres, AreFibres}
 use Rattle.eon_model.specs.Route.{Route}
 use Rattle.eon_model.specs.ReplyText.{format_name, route_lines}
 use Rattle.eon_model.specs.Spelling.{line, fibre_list}
+use Rattle.plan_report.proofs.CountLemmas.{flat_map-take}
 use Rattle.reply_text.specs.Sent.{Sent, Takes}
 use Rattle.reply_text.proofs.SentLaws.{takes-both, takes-same}
 
 -- the text of one more
-pub next_text : {X : Type 0} (f : X → List ℕ) (xs : List X) (i : ℕ) (x : X) (a b c : Sent) → i < length xs →
-    x ≡ get_or xs i x → Takes a b (flat_map f (take i xs)) → Takes b c (f x) → Takes a c (flat_map f (take (i + 1) xs))
-next_text f xs i x a b c l e p q = takes-same a c _ _
-    (ap (λ v. flat_map f (take i xs) ++ v) (sym (append-nil (f x))) ∙ sym (flat_map-append f (take i xs) (x ∷ []))
-    ∙ ap (λ y. flat_map f (take i xs ++ y ∷ [])) e ∙ ap (flat_map f) (sym (take_more xs i x l)))
-    (takes-both a b c _ _ p q)
+pub next_text : {X : Type 0} (f : X → List ℕ) (xs : List X) (i : ℕ) (x : X) (a b c : Sent) → slice_get xs i ≡ Some x →
+    Takes a b (flat_map f (take i xs)) → Takes b c (f x) → Takes a c (flat_map f (take (i + 1) xs))
+next_text f xs i x a b c e p q =
+    rw (add-one i) (takes-same a c _ _ (sym (flat_map-take f xs i x e)) (takes-both a b c _ _ p q))
 
 -- the line of a route
 abbrev pub route_line : Setup → ℕ → Route → List ℕ
@@ -43,7 +41,8 @@ lines-push setup n m (s ∷ rs) r e =
 
 -- ---- routes that can be shown
 
-numbers_in : (n : ℕ) (xs : List ℕ) → list_all (λ i. nat_lt i n) xs ≡ true → AllByRecursion (λ i. i < n) xs
+-- numbers that are tested to be below the bound
+pub numbers_in : (n : ℕ) (xs : List ℕ) → list_all (λ i. nat_lt i n) xs ≡ true → AllByRecursion (λ i. i < n) xs
 numbers_in n [] h = tt
 numbers_in n (x ∷ xs) h =
     let p = and_parts (nat_lt x n) (list_all (λ i. nat_lt i n) xs) h in (ltb-true x n p.0, numbers_in n xs p.1)

@@ -4,20 +4,12 @@ use Rattle.std.proofs.lemmas.List.{append-nil, take_more, map-append}
 use Rattle.std.specs.Option.{option_to_list}
 use Rattle.std.specs.List.{flat_map}
 use Rattle.eon_model.specs.Network.{Fibre, fibre_at, names_of_fibres}
-use Rattle.eon_model.specs.Spelling.{spaced, line, fibre_list}
+use Rattle.eon_model.specs.Spelling.{line, fibre_list}
+use Rattle.plan_report.specs.Words.{behind}
+use Rattle.plan_report.proofs.WordLemmas.{spaced-behind, behind-append, behind-one}
 use Rattle.reply_text.specs.Sent.{Sent, Takes}
-use Rattle.reply_text.specs.Words.{behind, behind_commas}
+use Rattle.reply_text.specs.Words.{behind_commas}
 use Rattle.reply_text.proofs.SentLaws.{takes-both, takes-same, takes-none}
-
-pub behind-append : (vs ws : List (List ℕ)) → behind (vs ++ ws) ≡ behind vs ++ behind ws
-unfolding behind
-behind-append [] ws = refl
-behind-append (v ∷ vs) ws = ap (λ x. 32 ∷ v ++ x) (behind-append vs ws) ∙ sym
-    (append_assoc (32 ∷ v) (behind vs) (behind ws))
-
-pub behind-one : (w : List ℕ) → 32 ∷ w ≡ behind (w ∷ [])
-unfolding behind
-behind-one w = ap (λ v. 32 ∷ v) (sym (append-nil w))
 
 -- a space and a word
 pub one_word : (a b c : Sent) (w : List ℕ) → Takes a b (32 ∷ []) → Takes b c w → Takes a c (behind (w ∷ []))
@@ -42,11 +34,8 @@ pub no_word : (a : Sent) → Takes a a (behind [])
 unfolding behind
 no_word a = takes-none a
 
-pub line_is : (w : List ℕ) (ws : List (List ℕ)) → line (w ∷ ws) ≡ w ++ (behind ws ++ 10 ∷ [])
-unfolding behind
-line_is w [] = refl
-line_is w (v ∷ ws) = append_assoc w (32 ∷ spaced (v ∷ ws)) (10 ∷ []) ∙ ap (λ x. w ++ (32 ∷ x))
-    (line_is v ws ∙ sym (append_assoc v (behind ws) (10 ∷ [])))
+line_is : (w : List ℕ) (ws : List (List ℕ)) → line (w ∷ ws) ≡ w ++ (behind ws ++ 10 ∷ [])
+line_is w ws = ap (λ v. v ++ 10 ∷ []) (spaced-behind w ws) ∙ append_assoc w (behind ws) (10 ∷ [])
 
 -- a first word, the words behind it, and the end of the line
 pub line_taken : (a b c d : Sent) (w : List ℕ) (ws : List (List ℕ)) → Takes a b w → Takes b c (behind ws) →

@@ -1,4 +1,3 @@
-pub mod InRange
 pub mod Replied
 pub mod Sent
 pub mod Tellable

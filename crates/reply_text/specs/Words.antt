@@ -1,10 +1,5 @@
--- The words of a line, one after the other.
+-- Names with a comma between two of them.
 use Rattle.std.specs.Prelude.{ℕ, List, [], ◌∷◌, ◌++◌}
-
--- the words, each behind a space
-unfoldable pub behind : List (List ℕ) → List ℕ
-behind [] = []
-behind (w ∷ ws) = 32 ∷ w ++ behind ws
 
 -- the bytes, each text behind a comma
 unfoldable pub behind_commas : List (List ℕ) → List ℕ

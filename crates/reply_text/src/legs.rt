@@ -3,9 +3,10 @@ ghost use Rattle.std.specs.Prelude.{◌≡◌, ◌<◌, [], ◌∷◌, ◌++◌,
 ghost use Rattle.eon_model.specs.Network.{AreFibres, fibre_at, name_at, names_of_fibres};
 ghost use Rattle.eon_model.specs.ReplyText.{path_words, backup_words, leg_words, target_words, new_leg_words};
 ghost use Rattle.eon_model.specs.Spelling.{fibre_list};
-ghost use Rattle.reply_text.specs.InRange.{PathInRange, LegInRange};
+ghost use Rattle.plan_report.specs.InRange.{PathInRange, LegInRange};
+ghost use Rattle.plan_report.specs.Words.{behind};
 ghost use Rattle.reply_text.specs.Sent.{Takes};
-ghost use Rattle.reply_text.specs.Words.{behind, behind_commas};
+ghost use Rattle.reply_text.specs.Words.{behind_commas};
 
 use crate::pieces::Words;
 use crate::words::{push_centre, push_number, push_word};

@@ -7,9 +7,9 @@ ghost use Rattle.eon_model.specs.NetworkText.{is_setup};
 ghost use Rattle.eon_model.specs.Network.{AreFibres, names_of_fibres};
 ghost use Rattle.eon_model.specs.Spelling.{line, fibre_list};
 ghost use Rattle.eon_model.specs.ReplyText.{service_line, route_lines, format_name, word_line};
+ghost use Rattle.plan_report.specs.Words.{behind};
 ghost use Rattle.reply_text.specs.Sent.{Takes};
 ghost use Rattle.reply_text.specs.Tellable.{can_show};
-ghost use Rattle.reply_text.specs.Words.{behind};
 
 use crate::legs::push_fibres;
 use crate::pieces::Words;

@@ -5,10 +5,10 @@ ghost use Rattle.eon_model.specs.Legal.{Legal};
 ghost use Rattle.eon_model.specs.NetworkText.{is_setup};
 ghost use Rattle.eon_model.specs.ReplyText.{reply_text, part_word, word_line, ok_line, totals_line, old_leg_words, second_leg_words};
 ghost use Rattle.eon_model.specs.Spelling.{line};
+ghost use Rattle.plan_report.specs.Words.{behind};
 ghost use Rattle.reply_text.specs.Replied.{reply_told};
 ghost use Rattle.reply_text.specs.Sent.{Takes};
 ghost use Rattle.reply_text.specs.Tellable.{can_tell};
-ghost use Rattle.reply_text.specs.Words.{behind};
 
 use crate::listing::{put_routes, put_services};
 use crate::pieces::Words;

@@ -9,9 +9,9 @@ ghost use Rattle.eon_model.specs.Network.{name_at};
 ghost use Rattle.eon_model.specs.NetworkText.{is_setup};
 ghost use Rattle.eon_model.specs.ReplyText.{leg_words, target_words, new_leg_words, service_line, old_leg_words, second_leg_words};
 ghost use Rattle.eon_model.specs.Services.{service_of};
-ghost use Rattle.reply_text.specs.InRange.{LegInRange, ServiceInRange};
+ghost use Rattle.plan_report.specs.InRange.{LegInRange, ServiceInRange};
+ghost use Rattle.plan_report.specs.Words.{behind};
 ghost use Rattle.reply_text.specs.Sent.{Takes};
-ghost use Rattle.reply_text.specs.Words.{behind};
 
 use crate::legs::{push_leg, push_new_leg, push_target};
 use crate::pieces::Words;

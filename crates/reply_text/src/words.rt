@@ -1,9 +1,9 @@
 //! The words of a line.
 ghost use Rattle.std.specs.Prelude.{◌≡◌, [], ◌∷◌, ◌++◌};
 ghost use Rattle.std.specs.Fmt.{decimal, signed_decimal};
+ghost use Rattle.plan_report.specs.Words.{behind};
 ghost use Rattle.reply_text.specs.Sent.{Takes};
 ghost use Rattle.eon_model.specs.Listings.{class_word};
-ghost use Rattle.reply_text.specs.Words.{behind};
 
 use crate::pieces::Words;
 use eon_base::name::Name;

@@ -1,4 +1,4 @@
-use Rattle.std.proofs.Common.{◌≡◌, ◌∙◌, ap, ℤ, ℕ, length, List, to_z, of_z, w16, map, arith}
+use Rattle.std.proofs.Common.{◌≡◌, ◌∙◌, to_z, of_z, w16, map, arith}
 use Rattle.std.proofs.lemmas.Int.{ints}
 use Rattle.eon_model.specs.Lists.{integers_from}
 use Rattle.plan_report.specs.Counted.{state_holdings, holders}

@@ -1,4 +1,4 @@
-use Rattle.std.proofs.Common.{◌≡◌, ◌∙◌, sym, ap, subst, ◌+◌, ◌*◌, ◌≤◌, ◌<◌, add-one, take, length, List, ◌++◌, slice_index, to_z, of_z, w16, arith}
+use Rattle.std.proofs.Common.{sym, subst, add-one, take, List, to_z, of_z, w16, arith}
 use Rattle.std.proofs.lemmas.Option.{slice_get_within}
 use Rattle.eon_model.specs.Services.{Holding}
 use Rattle.plan_report.specs.Counted.{service_holdings, state_holdings, holders, Grows}

@@ -1,4 +1,4 @@
-use Rattle.std.proofs.Common.{◌≡◌, ◌∙◌, sym, ◌+◌, count_by, arith}
+use Rattle.std.proofs.Common.{◌∙◌, sym, ◌+◌, count_by, arith}
 use Rattle.std.specs.List.{list_any}
 use Rattle.eon_model.specs.FirstFit.{centres_in}
 use Rattle.eon_model.specs.Listings.{holds}

@@ -1,4 +1,4 @@
-use Rattle.std.proofs.Common.{◌≡◌, ◌∙◌, sym, ap, List}
+use Rattle.std.proofs.Common.{◌∙◌, sym, ap, List}
 use Rattle.eon_model.specs.Services.{Holding}
 use Rattle.eon_model.specs.Listings.{units_held}
 use Rattle.plan_report.proofs.CountLemmas.{few_services, work_same, backup_same}

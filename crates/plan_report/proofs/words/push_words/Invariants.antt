@@ -1,5 +1,5 @@
 use Rattle.std.proofs.Common.{◌≡◌, ◌++◌, map, take}
-use Rattle.plan_report.specs.Mapped.{behind}
+use Rattle.plan_report.specs.Words.{behind}
 use Rattle.plan_report.proofs.words.push_words.Given as goal
 
 abbrev pub invariant-loop-word : goal.invariant-loop-word

@@ -3,7 +3,7 @@ use Rattle.eon_model.specs.Network.{Network}
 use Rattle.eon_model.specs.Legal.{Setup}
 use Rattle.eon_model.specs.ReplyText.{service_line}
 use Rattle.reply_text.specs.Sent.{Takes}
-use Rattle.reply_text.proofs.InRangeLaws.{service_at-on}
+use Rattle.plan_report.proofs.InRangeLaws.{service_at-on}
 use Rattle.reply_text.proofs.ListingLaws.{next_text}
 use Rattle.reply_text.proofs.listing.put_each_service.Goals as goal
 
@@ -19,4 +19,4 @@ loop-i-preserved g c =
     let more = subst (λ (v : Network). Takes (g.W.Words.sent c.loop-i.out) (g.W.Words.sent c.put_service.new.out)
     (service_line v c.at.result.now)) net c.put_service.ensures in
     next_text (service_line c.args.setup.now.network) c.args.services.now.list c.loop-i.i c.at.result.now _ _ _
-    (rw c.len-i-end.ensures.count at c.loop-i-test.true) c.at.ensures.read c.loop-i.invariant more
+    c.at.ensures.service c.loop-i.invariant more

@@ -1,7 +1,7 @@
 use Rattle.std.proofs.Common.{sym}
 use Rattle.eon_model.specs.ReplyText.{leg_words}
 use Rattle.reply_text.proofs.WordLaws.{no_words}
-use Rattle.reply_text.proofs.InRangeLaws.{found-on}
+use Rattle.plan_report.proofs.InRangeLaws.{found-on}
 use Rattle.reply_text.proofs.services.push_old_leg.Goals as goal
 
 pub push_leg-requires : goal.push_leg-requires

@@ -3,7 +3,7 @@ use Rattle.std.specs.Option.{option_and_then}
 use Rattle.eon_model.specs.ReplyText.{leg_words}
 use Rattle.eon_model.specs.Services.{Service}
 use Rattle.reply_text.proofs.WordLaws.{no_words}
-use Rattle.reply_text.proofs.InRangeLaws.{found-on}
+use Rattle.plan_report.proofs.InRangeLaws.{found-on}
 use Rattle.reply_text.proofs.services.push_second_leg.Goals as goal
 
 pub push_second-requires : goal.push_second-requires

@@ -1,5 +1,5 @@
 use Rattle.std.proofs.Common.{sym}
-use Rattle.reply_text.proofs.InRangeLaws.{found-on}
+use Rattle.plan_report.proofs.InRangeLaws.{found-on}
 use Rattle.reply_text.proofs.services.put_named.Goals as goal
 
 pub put_service-requires : goal.put_service-requires
