@@ -1,6 +1,6 @@
 -- What is decided on a line.
-use Rattle.std.proofs.Common.{◌≡◌, ◌≢◌, refl, sym, ◌∙◌, ap, subst, ℕ, ◌<◌, ◌≤◌, Bool, true, false, List, [], ◌++◌, length, arith, Option, Some, None, Result, Ok, Err}
-use Rattle.std.specs.Prelude.{IsTrue, IsOk, OnOk, OnErr}
+use Rattle.std.proofs.Common.{◌≡◌, ◌≢◌, refl, sym, ◌∙◌, ap, subst, ℕ, ◌<◌, ◌≤◌, true, false, List, length, arith}
+use Rattle.std.specs.Prelude.{IsTrue}
 use Rattle.eon_model.specs.Services.{State}
 use Rattle.eon_model.specs.Legal.{Setup}
 use Rattle.eon_model.specs.Commands.{Command}
@@ -10,7 +10,7 @@ use Rattle.eon_model.specs.Events as changes
 use Rattle.eon_model.specs.Step.{outcome_of}
 use Rattle.eon_model.specs.Answers.{Answer, Gives, said, takes_memory, state_after}
 use Rattle.eon_model.specs.Answers as answers
-use Rattle.eon_model.specs.Later.{Told, Now, Tells, Answered, Untold}
+use Rattle.eon_model.specs.Later.{Told, Now, Answered, Untold}
 use Rattle.eon_model.proofs.CommandTextLaws.{line-unique}
 use Rattle.reply_text.specs.Replied.{reply_told}
 use Rattle.reply_text.specs.Tellable.{can_tell}

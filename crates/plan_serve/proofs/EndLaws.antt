@@ -11,10 +11,11 @@ use Rattle.eon_model.specs.Modes.{stream_limit}
 use Rattle.eon_model.specs.Run.{lines_of}
 use Rattle.plan_serve.specs.Files.{IsLeft}
 use Rattle.plan_serve.specs.Lines.{whole_lines, quits_within, has_no_end, most_kept}
-use Rattle.plan_serve.specs.Ends.{Serves, AnswersAll, StopsAtLong, StopsReading, StopsWriting}
+use Rattle.plan_serve.specs.Ends.{AnswersAll, StopsAtLong, StopsReading, StopsWriting}
+use Rattle.plan_serve.specs.Gathering.{output}
 use Rattle.plan_serve.specs.Session.{AreAnswered, Quits, Breaks, FeedsAll, WithinLines, FinishesAt, ServedAt, last_line}
 use Rattle.plan_serve.specs.declared.status.Status.{Status}
-use Rattle.plan_serve.specs.declared.status.Status.TheVariants.{Done, Words, NetRefused, NetLong, ReadFault, Memory, WriteFault, InputLong, Later}
+use Rattle.plan_serve.specs.declared.status.Status.TheVariants.{Done, ReadFault, WriteFault, InputLong}
 use Rattle.plan_serve.proofs.AnswerLaws.{answered_more, quits_after, breaks_after}
 use Rattle.plan_serve.proofs.LineLaws.{no_text_more, no_lines_more, lines_of-split, lines_of-last, whole_lines-split}
 use Rattle.plan_serve.proofs.QuitLaws.{quits_among, no_quit_within, short_stream, quit_stream, long_stream}
@@ -36,7 +37,8 @@ pub answers_all : (setup : Setup) (whole left next before now then : Option (Lis
     (begun : List ℕ) (count : ℕ) → count ≤ stream_limit →
     Consumes left next [] → IsAtEnd next →
     ((f : List ℕ) → IsTrue (has_no_end f) → begun ≡ take most_kept f →
-    AreAnswered setup state last (last_line f) now then ⊎ Quits setup state (last_line f) now then) →
+    AreAnswered setup state last (last_line f) (output now []) (output then [])
+    ⊎ Quits setup state (last_line f) (output now []) (output then [])) →
     Going setup whole left before now state begun count → AnswersAll (IsLeft whole) setup next before then
 answers_all setup whole left next before now then state last begun count short read ends more h =
     let lines = lines_taken setup whole left before now state begun count h in
@@ -50,16 +52,18 @@ answers_all setup whole left next before now then state last begun count short r
           omega (arith, k, h.counted, short));
       serves = elim (more h.fed.rest h.fed.unended h.fed.kept) [
         | inl a ↦ serves_lines setup last (h.taken ++ []) all before then lines
-            (answered_more setup [] state last h.fed.lines (last_line h.fed.rest) before now then h.fed.answered a)
+            (answered_more setup [] state last h.fed.lines (last_line h.fed.rest) (output before []) (output now []) (output then [])
+            h.fed.answered a)
         | inr q ↦ serves_quit setup (h.taken ++ []) all [] before then (lines ∙ sym (no_lines_more all))
-            (quits_after setup [] state h.fed.lines (last_line h.fed.rest) before now then h.fed.answered q)
+            (quits_after setup [] state h.fed.lines (last_line h.fed.rest) (output before []) (output now []) (output then [])
+            h.fed.answered q)
       ];
     }
 
 pub stops_at_end : (setup : Setup) (whole left next before now then : Option (List ℕ)) (state : State)
     (begun : List ℕ) (count : ℕ) → is_setup setup ≡ true → Consumes left next [] → IsAtEnd next →
     ((f : List ℕ) → IsTrue (has_no_end f) → begun ≡ take most_kept f →
-    Breaks setup state (last_line f) now then) →
+    Breaks setup state (last_line f) (output now []) then) →
     Going setup whole left before now state begun count → StopsWriting (IsLeft whole) setup before then
 stops_at_end setup whole left next before now then state begun count ok read ends more h =
     let all = h.fed.lines ++ last_line h.fed.rest in record {
@@ -67,7 +71,7 @@ stops_at_end setup whole left next before now then state begun count ok read end
       told = stream_ends whole next (h.taken ++ []) (consumes_more whole left next h.taken [] h.read read) ends;
       begins = begins_broken setup (h.taken ++ []) all [] before then ok
           (lines_taken setup whole left before now state begun count h ∙ sym (no_lines_more all))
-          (breaks_after setup [] state h.fed.lines (last_line h.fed.rest) before now then h.fed.answered
+          (breaks_after setup [] state h.fed.lines (last_line h.fed.rest) (output before []) (output now []) then h.fed.answered
           (more h.fed.rest h.fed.unended h.fed.kept));
     }
 
@@ -99,13 +103,13 @@ pub stops_writing : (setup here : Setup) (whole left next before now then : Opti
     (begun piece more : List ℕ) (count : ℕ) → is_setup setup ≡ true → here ≡ setup →
     Consumes left next (piece ++ more) →
     ((f : List ℕ) → IsTrue (has_no_end f) → begun ≡ take most_kept f →
-    WithinLines (f ++ piece) (λ lines. Breaks here state lines now then)) →
+    WithinLines (f ++ piece) (λ lines. Breaks here state lines (output now []) then)) →
     Going setup whole left before now state begun count → StopsWriting (IsLeft whole) setup before then
 stops_writing setup here whole left next before now then state begun piece more count ok same read part h =
     let all = stream_is whole next (h.taken ++ (piece ++ more))
     (consumes_more whole left next h.taken (piece ++ more) h.read read) in
-    let k = feeds_less setup [] state begun h.taken piece before now then h.fed
-    (subst (λ (v : Setup). WithinLines (h.fed.rest ++ piece) (λ lines. Breaks v state lines now then)) same
+    let k = feeds_less setup [] state begun h.taken piece (output before []) (output now []) then h.fed
+    (subst (λ (v : Setup). WithinLines (h.fed.rest ++ piece) (λ lines. Breaks v state lines (output now []) then)) same
     (part h.fed.rest h.fed.unended h.fed.kept)) in
     let stream = (h.taken ++ (piece ++ more)) ++ rest_of next in record {
       stream = stream;
@@ -120,13 +124,13 @@ pub stops_at_long : (setup here : Setup) (whole left next before now then : Opti
     (begun new piece more : List ℕ) (count : ℕ) → is_setup setup ≡ true → here ≡ setup →
     count + length piece ≡ stream_limit → 0 < length more → Consumes left next (piece ++ more) →
     ((f : List ℕ) → IsTrue (has_no_end f) → begun ≡ take most_kept f →
-    FeedsAll here state last new (f ++ piece) now then) →
+    FeedsAll here state last new (f ++ piece) (output now []) (output then [])) →
     Going setup whole left before now state begun count → StopsAtLong (IsLeft whole) setup before then
 stops_at_long setup here whole left next before now then state last begun new piece more count ok same full some read fed h =
     let taken = h.taken ++ piece in
     let stream = (h.taken ++ (piece ++ more)) ++ rest_of next in
-    let k = feeds_more setup [] state last begun new h.taken piece before now then h.fed
-    (subst (λ (v : Setup). FeedsAll v state last new (h.fed.rest ++ piece) now then) same
+    let k = feeds_more setup [] state last begun new h.taken piece (output before []) (output now []) (output then []) h.fed
+    (subst (λ (v : Setup). FeedsAll v state last new (h.fed.rest ++ piece) (output now []) (output then [])) same
     (fed h.fed.rest h.fed.unended h.fed.kept)) in
     let bytes : stream ≡ taken ++ (more ++ rest_of next) = taken_split h.taken piece more (rest_of next) in
     let size : length taken ≡ stream_limit =
@@ -162,13 +166,13 @@ pub quits_read : (setup here : Setup) (whole left next before now then : Option 
     (begun piece more : List ℕ) (count : ℕ) → here ≡ setup → count + length piece ≤ stream_limit →
     Consumes left next (piece ++ more) →
     ((f : List ℕ) → IsTrue (has_no_end f) → begun ≡ take most_kept f →
-    WithinLines (f ++ piece) (λ lines. Quits here state lines now then)) →
+    WithinLines (f ++ piece) (λ lines. Quits here state lines (output now []) (output then []))) →
     Going setup whole left before now state begun count → AnswersAll (IsLeft whole) setup next before then
 quits_read setup here whole left next before now then state begun piece more count same low read quits h =
     let taken = h.taken ++ piece in
     let left_over = more ++ rest_of next in
-    let k = feeds_quit setup [] state begun h.taken piece before now then h.fed
-    (subst (λ (v : Setup). WithinLines (h.fed.rest ++ piece) (λ lines. Quits v state lines now then)) same
+    let k = feeds_quit setup [] state begun h.taken piece (output before []) (output now []) (output then []) h.fed
+    (subst (λ (v : Setup). WithinLines (h.fed.rest ++ piece) (λ lines. Quits v state lines (output now []) (output then []))) same
     (quits h.fed.rest h.fed.unended h.fed.kept)) in
     let c = k.holds.comes in
     let bytes : (h.taken ++ (piece ++ more)) ++ rest_of next ≡ taken ++ left_over =
@@ -200,15 +204,16 @@ pub finishes : (setup here : Setup) (whole left next before now then : Option (L
     (begun : List ℕ) (count : ℕ) (status : Status) → is_setup setup ≡ true → here ≡ setup →
     count ≤ stream_limit → Consumes left next [] → IsAtEnd next →
     ((f : List ℕ) → IsTrue (has_no_end f) → begun ≡ take most_kept f →
-    FinishesAt here state last f now then status) →
+    FinishesAt here state last f (output now []) (output then []) status) →
     Going setup whole left before now state begun count → ServedAt setup whole next before then status
 finishes setup here whole left next before now then state last begun count Done ok same short read ends more h =
     answers_all setup whole left next before now then state last begun count short read ends
-    (λ f a b. subst (λ (v : Setup). AreAnswered v state last (last_line f) now then ⊎ Quits v state (last_line f) now then)
+    (λ f a b. subst (λ (v : Setup). AreAnswered v state last (last_line f) (output now []) (output then [])
+    ⊎ Quits v state (last_line f) (output now []) (output then []))
     same (more f a b)) h
 finishes setup here whole left next before now then state last begun count WriteFault ok same short read ends more h =
     stops_at_end setup whole left next before now then state begun count ok read ends
-    (λ f a b. subst (λ (v : Setup). Breaks v state (last_line f) now then) same (more f a b)) h
+    (λ f a b. subst (λ (v : Setup). Breaks v state (last_line f) (output now []) then) same (more f a b)) h
 finishes setup here whole left next before now then state last begun count ReadFault ok same short read ends more h =
     absurd (more h.fed.rest h.fed.unended h.fed.kept)
 finishes setup here whole left next before now then state last begun count InputLong ok same short read ends more h =

@@ -1,14 +1,14 @@
 -- The lines of a piece, one after the other.
-use Rattle.std.proofs.Common.{◌≡◌, refl, sym, ◌∙◌, ap, subst, zero, suc, ◌⊎◌, inl, inr, ℕ, ◌+◌, ◌-◌, ◌≤◌, ◌<◌, min, true, false, List, [], ◌∷◌, ◌++◌, append_assoc, length, take, drop, Option, Result, Ok, Err, arith}
+use Rattle.std.proofs.Common.{◌≡◌, refl, sym, ◌∙◌, ap, subst, zero, suc, ◌⊎◌, inl, inr, ℕ, ◌+◌, ◌-◌, ◌≤◌, ◌<◌, min, false, List, [], ◌∷◌, ◌++◌, append_assoc, length, take, drop, Option, Result, Ok, Err, arith}
 use Rattle.std.specs.Prelude.{IsTrue, IfOk, ◌==◌}
 use Rattle.std.proofs.lemmas.List.{length-take, length-drop, take-append-drop}
-use Rattle.std.specs.Io.KnownBytes.{Appends}
 use Rattle.eon_model.specs.Services.{State}
 use Rattle.eon_model.specs.Legal.{Setup}
 use Rattle.eon_model.specs.Later.{told_text}
 use Rattle.plan_serve.specs.declared.answering.Flow.{Flow}
 use Rattle.plan_serve.specs.declared.answering.Flow.TheVariants.{On, Ended}
 use Rattle.plan_serve.specs.Answering.{AnswersLine, GoesOn}
+use Rattle.plan_serve.specs.Gathering.{Output, Gathers}
 use Rattle.plan_serve.specs.Lines.{has_no_end, most_kept}
 use Rattle.plan_serve.specs.Session.{AreAnswered, Quits, Breaks, Feeds, FeedsAll, WithinLines, Splits, last_line}
 use Rattle.plan_serve.proofs.AnswerLaws.{answered_none, answered_more, quits_after, breaks_after, one_answered, one_quits, one_breaks}
@@ -29,7 +29,7 @@ ok_front (Ok flow) line P h = (h.0, goes_front flow line h.1)
 ok_front (Err e) line P h = h
 
 -- the answer to a long line is that to its first bytes
-pub answers_front : {E : Type 0} (setup : Setup) (a b : State) (line : List ℕ) (p q : Option (List ℕ))
+pub answers_front : {E : Type 0} (setup : Setup) (a b : State) (line : List ℕ) (p q : Output)
     (r : Result Flow E) → AnswersLine {E = E} setup a b (take most_kept line) p q r →
     AnswersLine {E = E} setup a b line p q r
 answers_front {E} setup a b line p q r h = record {
@@ -37,13 +37,13 @@ answers_front {E} setup a b line p q r h = record {
   told = h.told;
   tells = Tells-front setup a line h.missed h.told h.tells;
   state = h.state;
-  ok = ok_front {E = E} r line (Appends p q (told_text setup a h.told)) h.ok;
+  ok = ok_front {E = E} r line (Gathers p q (told_text setup a h.told)) h.ok;
   err = h.err;
 }
 
 -- the line is told by what was kept of its beginning and what came then
 pub answers_kept : {E : Type 0} (setup : Setup) (a b : State) (begun fragment part line : List ℕ)
-    (p q : Option (List ℕ)) (r : Result Flow E) → begun ≡ take most_kept fragment →
+    (p q : Output) (r : Result Flow E) → begun ≡ take most_kept fragment →
     line ≡ take most_kept (begun ++ part) → AnswersLine {E = E} setup a b line p q r →
     AnswersLine {E = E} setup a b (fragment ++ part) p q r
 answers_kept {E} setup a b begun fragment part line p q r kept is h =
@@ -53,7 +53,7 @@ answers_kept {E} setup a b begun fragment part line p q r kept is h =
 
 -- the line is told by what was kept of it
 pub answers_begun : {E : Type 0} (setup : Setup) (a b : State) (fragment line : List ℕ)
-    (p q : Option (List ℕ)) (r : Result Flow E) → line ≡ take most_kept fragment →
+    (p q : Output) (r : Result Flow E) → line ≡ take most_kept fragment →
     AnswersLine {E = E} setup a b line p q r →
     AnswersLine {E = E} setup a b fragment p q r
 answers_begun {E} setup a b fragment line p q r is h =
@@ -62,7 +62,7 @@ answers_begun {E} setup a b fragment line p q r is h =
 
 -- nothing had begun
 pub answers_whole : {E : Type 0} (setup : Setup) (a b : State) (begun fragment part : List ℕ)
-    (p q : Option (List ℕ)) (r : Result Flow E) → begun ≡ take most_kept fragment → begun ≡ [] →
+    (p q : Output) (r : Result Flow E) → begun ≡ take most_kept fragment → begun ≡ [] →
     AnswersLine {E = E} setup a b part p q r →
     AnswersLine {E = E} setup a b (fragment ++ part) p q r
 answers_whole {E} setup a b begun fragment part p q r kept none h =
@@ -71,7 +71,7 @@ answers_whole {E} setup a b begun fragment part p q r kept none h =
 
 -- ---- a piece
 
-pub feeds_none : (setup : Setup) (a : State) (begun fragment : List ℕ) (p : Option (List ℕ)) →
+pub feeds_none : (setup : Setup) (a : State) (begun fragment : List ℕ) (p : Output) →
     IsTrue (has_no_end fragment) → begun ≡ take most_kept fragment →
     FeedsAll setup a a begun fragment p p
 feeds_none setup a begun fragment p whole kept = record {
@@ -93,7 +93,7 @@ splits_end bytes l more lines rest h whole part =
 
 -- a line ends, and is answered
 pub feeds_line : {E : Type 0} (setup : Setup) (a b c : State) (begun bytes l : List ℕ)
-    (p q r : Option (List ℕ)) → IsTrue (has_no_end l) →
+    (p q r : Output) → IsTrue (has_no_end l) →
     ((fragment : List ℕ) → begun ≡ take most_kept fragment →
     AnswersLine {E = E} setup b c (fragment ++ l) q r (Ok On)) →
     FeedsAll setup a b begun bytes p q → FeedsAll setup a c [] (bytes ++ (l ++ 10 ∷ [])) p r
@@ -120,7 +120,7 @@ within_line bytes l more P Q lines rest splits unended part behind holds = recor
 }
 
 -- no further line ends
-pub feeds_rest : (setup : Setup) (a b : State) (begun new bytes more : List ℕ) (p q : Option (List ℕ)) →
+pub feeds_rest : (setup : Setup) (a b : State) (begun new bytes more : List ℕ) (p q : Output) →
     IsTrue (has_no_end more) → new ≡ take most_kept (begun ++ more) →
     FeedsAll setup a b begun bytes p q → FeedsAll setup a b new (bytes ++ more) p q
 feeds_rest setup a b begun new bytes more p q part is h = record {
@@ -138,7 +138,7 @@ feeds_rest setup a b begun new bytes more p q part is h = record {
 
 -- ---- pieces
 
-pub feeds_more : (setup : Setup) (a b c : State) (begun new bytes piece : List ℕ) (p q r : Option (List ℕ)) →
+pub feeds_more : (setup : Setup) (a b c : State) (begun new bytes piece : List ℕ) (p q r : Output) →
     (h : FeedsAll setup a b begun bytes p q) → FeedsAll setup b c new (h.rest ++ piece) q r →
     FeedsAll setup a c new (bytes ++ piece) p r
 feeds_more setup a b c begun new bytes piece p q r h k = record {
@@ -151,7 +151,7 @@ feeds_more setup a b c begun new bytes piece p q r h k = record {
 }
 
 -- something holds of the lines of what follows, and so of all lines
-pub within_more : (setup : Setup) (a b : State) (begun bytes piece : List ℕ) (p q : Option (List ℕ))
+pub within_more : (setup : Setup) (a b : State) (begun bytes piece : List ℕ) (p q : Output)
     (P Q : List (List ℕ) → Type 0) → (h : FeedsAll setup a b begun bytes p q) →
     ((ys : List (List ℕ)) → Q ys → P (h.lines ++ ys)) → WithinLines (h.rest ++ piece) Q →
     WithinLines (bytes ++ piece) P
@@ -162,7 +162,7 @@ within_more setup a b begun bytes piece p q P Q h behind k = record {
   holds = behind k.lines k.holds;
 }
 
-pub feeds_less : (setup : Setup) (a b : State) (begun bytes piece : List ℕ) (p q r : Option (List ℕ)) →
+pub feeds_less : (setup : Setup) (a b : State) (begun bytes piece : List ℕ) (p q : Output) (r : Option (List ℕ)) →
     (h : FeedsAll setup a b begun bytes p q) →
     WithinLines (h.rest ++ piece) (λ lines. Breaks setup b lines q r) →
     WithinLines (bytes ++ piece) (λ lines. Breaks setup a lines p r)
@@ -170,7 +170,7 @@ feeds_less setup a b begun bytes piece p q r h k =
     within_more setup a b begun bytes piece p q (λ lines. Breaks setup a lines p r) (λ lines. Breaks setup b lines q r)
     h (λ ys m. breaks_after setup a b h.lines ys p q r h.answered m) k
 
-pub feeds_quit : (setup : Setup) (a b : State) (begun bytes piece : List ℕ) (p q r : Option (List ℕ)) →
+pub feeds_quit : (setup : Setup) (a b : State) (begun bytes piece : List ℕ) (p q r : Output) →
     (h : FeedsAll setup a b begun bytes p q) →
     WithinLines (h.rest ++ piece) (λ lines. Quits setup b lines q r) →
     WithinLines (bytes ++ piece) (λ lines. Quits setup a lines p r)
@@ -198,7 +198,7 @@ above_zero (suc n) e = omega arith
 
 -- the last line is told by what was kept of it
 last_answered : {E : Type 0} (setup : Setup) (a b : State) (begun fragment line : List ℕ)
-    (p q : Option (List ℕ)) (flow : Flow) → begun ≡ take most_kept fragment → line ≡ begun →
+    (p q : Output) (flow : Flow) → begun ≡ take most_kept fragment → line ≡ begun →
     AnswersLine {E = E} setup a b line p q (Ok flow) →
     AreAnswered setup a b (fragment ∷ []) p q ⊎ Quits setup a (fragment ∷ []) p q
 last_answered {E} setup a b begun fragment line p q On kept is h =
@@ -209,7 +209,7 @@ last_answered {E} setup a b begun fragment line p q Ended kept is h =
     (answers_begun {E = E} setup a b fragment line p q (Ok Ended) (is ∙ kept) h))
 
 pub finishes_all : {E : Type 0} (setup : Setup) (a b : State) (begun fragment line : List ℕ)
-    (p q : Option (List ℕ)) (flow : Flow) → begun ≡ take most_kept fragment → 0 < length begun → line ≡ begun →
+    (p q : Output) (flow : Flow) → begun ≡ take most_kept fragment → 0 < length begun → line ≡ begun →
     AnswersLine {E = E} setup a b line p q (Ok flow) →
     AreAnswered setup a b (last_line fragment) p q ⊎ Quits setup a (last_line fragment) p q
 finishes_all {E} setup a b begun fragment line p q flow kept some is h =
@@ -219,16 +219,16 @@ finishes_all {E} setup a b begun fragment line p q flow kept some is h =
 
 -- writing breaks off in the reply to the last line
 pub finishes_part : {E : Type 0} (setup : Setup) (a b : State) (begun fragment line : List ℕ)
-    (p q : Option (List ℕ)) (e : E) → begun ≡ take most_kept fragment → 0 < length begun → line ≡ begun →
-    AnswersLine {E = E} setup a b line p q (Err e) → Breaks setup a (last_line fragment) p q
+    (p q : Output) (e : E) → begun ≡ take most_kept fragment → 0 < length begun → line ≡ begun →
+    AnswersLine {E = E} setup a b line p q (Err e) → Breaks setup a (last_line fragment) p q.given
 finishes_part {E} setup a b begun fragment line p q e kept some is h =
-    subst (λ (v : List (List ℕ)). Breaks setup a v p q)
+    subst (λ (v : List (List ℕ)). Breaks setup a v p q.given)
     (sym (last_line-some fragment (nothing_kept most_kept begun fragment kept some)))
     (one_breaks {E = E} setup a b fragment p q e
     (answers_begun {E = E} setup a b fragment line p q (Err e) (is ∙ kept) h))
 
 -- nothing stands behind the last end
-pub finishes_none : (setup : Setup) (a : State) (begun fragment : List ℕ) (p : Option (List ℕ)) →
+pub finishes_none : (setup : Setup) (a : State) (begun fragment : List ℕ) (p : Output) →
     begun ≡ take most_kept fragment → begun ≡ [] →
     AreAnswered setup a a (last_line fragment) p p ⊎ Quits setup a (last_line fragment) p p
 finishes_none setup a begun fragment p kept none =
@@ -237,12 +237,12 @@ finishes_none setup a begun fragment p kept none =
 
 -- ---- by the flow
 
-pub fed_on : (E : Type 0) (setup : Setup) (a b : State) (begun bytes : List ℕ) (p q : Option (List ℕ)) (flow : Flow) →
+pub fed_on : (E : Type 0) (setup : Setup) (a b : State) (begun bytes : List ℕ) (p q : Output) (flow : Flow) →
     flow ≡ On → Feeds {E = E} setup a b begun bytes p q (Ok flow) → FeedsAll setup a b begun bytes p q
 fed_on E setup a b begun bytes p q flow on h =
     subst (λ (v : Flow). Feeds {E = E} setup a b begun bytes p q (Ok v)) on h
 
-pub fed_ended : (E : Type 0) (setup : Setup) (a b : State) (begun bytes : List ℕ) (p q : Option (List ℕ))
+pub fed_ended : (E : Type 0) (setup : Setup) (a b : State) (begun bytes : List ℕ) (p q : Output)
     (flow : Flow) → flow ≡ Ended → Feeds {E = E} setup a b begun bytes p q (Ok flow) →
     WithinLines bytes (λ lines. Quits setup a lines p q)
 fed_ended E setup a b begun bytes p q flow ended h =
@@ -270,7 +270,7 @@ rest_shorter rest n m bound low =
     omega arith
 
 pub feeds_next : {E : Type 0} (setup here : Setup) (a b c : State) (begun new fragment done l : List ℕ)
-    (p q r : Option (List ℕ)) (flow : Flow) → flow ≡ On → here ≡ setup → new ≡ [] → IsTrue (has_no_end l) →
+    (p q r : Output) (flow : Flow) → flow ≡ On → here ≡ setup → new ≡ [] → IsTrue (has_no_end l) →
     ((f : List ℕ) → begun ≡ take most_kept f →
     AnswersLine {E = E} here b c (f ++ l) q r (Ok flow)) →
     FeedsAll setup a b begun (fragment ++ done) p q →
@@ -298,23 +298,23 @@ stop_here fragment piece done rest at P ends whole h =
     subst (λ (v : List ℕ). WithinLines v P) bytes h
 
 pub feeds_stop : {E : Type 0} (setup here : Setup) (a b c : State) (begun fragment piece done rest : List ℕ)
-    (at : ℕ) (p q r : Option (List ℕ)) (e : E) → here ≡ setup → IsTrue (has_no_end (take at rest)) →
+    (at : ℕ) (p q r : Output) (e : E) → here ≡ setup → IsTrue (has_no_end (take at rest)) →
     drop at rest ≡ 10 ∷ drop (at + 1) rest → piece ≡ done ++ rest →
     ((f : List ℕ) → begun ≡ take most_kept f →
     AnswersLine {E = E} here b c (f ++ take at rest) q r (Err e)) →
     FeedsAll setup a b begun (fragment ++ done) p q →
-    WithinLines (fragment ++ piece) (λ lines. Breaks setup a lines p r)
+    WithinLines (fragment ++ piece) (λ lines. Breaks setup a lines p r.given)
 feeds_stop {E} setup here a b c begun fragment piece done rest at p q r e same part ends whole told h =
     let l = take at rest in
-    stop_here fragment piece done rest at (λ lines. Breaks setup a lines p r) ends whole
-    (within_line (fragment ++ done) l (drop (at + 1) rest) (λ lines. Breaks setup a lines p r)
-    (λ lines. Breaks setup b lines q r) h.lines h.rest h.splits h.unended part
-    (λ ys m. breaks_after setup a b h.lines ys p q r h.answered m)
+    stop_here fragment piece done rest at (λ lines. Breaks setup a lines p r.given) ends whole
+    (within_line (fragment ++ done) l (drop (at + 1) rest) (λ lines. Breaks setup a lines p r.given)
+    (λ lines. Breaks setup b lines q r.given) h.lines h.rest h.splits h.unended part
+    (λ ys m. breaks_after setup a b h.lines ys p q r.given h.answered m)
     (one_breaks {E = E} setup b c (h.rest ++ l) q r e
     (subst (λ (v : Setup). AnswersLine {E = E} v b c (h.rest ++ l) q r (Err e)) same (told h.rest h.kept))))
 
 pub feeds_ended : {E : Type 0} (setup here : Setup) (a b c : State) (begun fragment piece done rest : List ℕ)
-    (at : ℕ) (p q r : Option (List ℕ)) (flow : Flow) → flow ≡ Ended → here ≡ setup →
+    (at : ℕ) (p q r : Output) (flow : Flow) → flow ≡ Ended → here ≡ setup →
     IsTrue (has_no_end (take at rest)) →
     drop at rest ≡ 10 ∷ drop (at + 1) rest → piece ≡ done ++ rest →
     ((f : List ℕ) → begun ≡ take most_kept f →
@@ -332,16 +332,17 @@ feeds_ended {E} setup here a b c begun fragment piece done rest at p q r flow en
     (subst (λ (v : Flow). AnswersLine {E = E} here b c (h.rest ++ l) q r (Ok v)) ended (told h.rest h.kept)))))
 
 pub feeds_end : (setup : Setup) (a b c : State) (begun new fragment piece done rest : List ℕ)
-    (p q : Option (List ℕ)) → c ≡ b → piece ≡ done ++ rest → IsTrue (has_no_end rest) →
+    (p q r : Output) → r ≡ q → c ≡ b → piece ≡ done ++ rest → IsTrue (has_no_end rest) →
     new ≡ take most_kept (begun ++ rest) → FeedsAll setup a b begun (fragment ++ done) p q →
-    FeedsAll setup a c new (fragment ++ piece) p q
-feeds_end setup a b c begun new fragment piece done rest p q same whole part is h =
-    subst (λ (v : List ℕ). FeedsAll setup a c new v p q)
+    FeedsAll setup a c new (fragment ++ piece) p r
+feeds_end setup a b c begun new fragment piece done rest p q r kept same whole part is h =
+    subst (λ (v : List ℕ). FeedsAll setup a c new v p r)
     (append_assoc fragment done rest ∙ ap (λ (v : List ℕ). fragment ++ v) (sym whole))
+    (subst (λ (v : Output). FeedsAll setup a c new ((fragment ++ done) ++ rest) p v) (sym kept)
     (subst (λ (v : State). FeedsAll setup a v new ((fragment ++ done) ++ rest) p q) (sym same)
-    (feeds_rest setup a b begun new (fragment ++ done) rest p q part is h))
+    (feeds_rest setup a b begun new (fragment ++ done) rest p q part is h)))
 
-pub feeds_begin : (setup : Setup) (a : State) (begun fragment : List ℕ) (p : Option (List ℕ)) →
+pub feeds_begin : (setup : Setup) (a : State) (begun fragment : List ℕ) (p : Output) →
     IsTrue (has_no_end fragment) → begun ≡ take most_kept fragment →
     FeedsAll setup a a begun (fragment ++ []) p p
 feeds_begin setup a begun fragment p whole kept =

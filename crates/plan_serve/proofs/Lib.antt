@@ -2,6 +2,9 @@ pub mod AnswerLaws
 pub mod DecideLaws
 pub mod EndLaws
 pub mod FeedLaws
+pub mod GatherLaws
+pub mod GivenLaws
+pub mod InsideLaws
 pub mod KeptLaws
 pub mod LineLaws
 pub mod MarkLaws

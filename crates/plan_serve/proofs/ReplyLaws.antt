@@ -1,17 +1,13 @@
--- What is given of the reply to a line.
-use Rattle.std.proofs.Common.{◌≡◌, ◌≢◌, refl, sym, ◌∙◌, ap, subst, ℕ, ◌-◌, ◌<◌, List, [], ◌∷◌, ◌++◌, length, take, drop, arith, Option, Result, Ok, Err}
-use Rattle.std.specs.Prelude.{IsTrue}
-use Rattle.std.specs.Io.KnownBytes.{Appends}
-use Rattle.std.proofs.lemmas.List.{take-append-drop, length-drop}
+-- What is told of a line, and its reply.
+use Rattle.std.proofs.Common.{◌≡◌, refl, sym, ◌∙◌, ap, subst, ℕ, List, Ok, Err}
 use Rattle.eon_model.specs.Services.{State}
 use Rattle.eon_model.specs.Legal.{Setup}
-use Rattle.eon_model.specs.Replies as asked
 use Rattle.eon_model.specs.ReplyText.{reply_text}
 use Rattle.eon_model.specs.Later.{Told, Now, told_text, state_told}
-use Rattle.eon_outside.specs.Writing.{AppendsPart}
 use Rattle.plan_serve.specs.declared.answering.Flow.{Flow}
 use Rattle.plan_serve.specs.declared.answering.LineReply.{LineReply}
 use Rattle.plan_serve.specs.declared.answering.LineReply.TheVariants.{Said}
+use Rattle.plan_serve.specs.Gathering.{Output, Gathers, GathersPart}
 use Rattle.plan_serve.specs.Answering.{IsReplyTo, Decides, CanBeWritten, line_reply_text, GoesOn, AnswersLine}
 
 -- the text of the line is that of the reply
@@ -36,10 +32,10 @@ pub decided_can_be_written : (setup here : Setup) (old new : State) (line : List
 decided_can_be_written setup here old new line r same h =
     subst (λ (v : Setup). CanBeWritten v new r) (sym same) (written setup new h.told r h.is)
 
--- the whole reply was given
+-- the whole reply came
 pub answers_whole : {E : Type 0} (setup here : Setup) (old new : State) (line : List ℕ) (r : LineReply)
-    (flow : Flow) (before now : Option (List ℕ)) → here ≡ setup → Decides setup old new line r →
-    Appends before now (line_reply_text here new r) → GoesOn flow line →
+    (flow : Flow) (before now : Output) → here ≡ setup → Decides setup old new line r →
+    Gathers before now (line_reply_text here new r) → GoesOn flow line →
     AnswersLine {E = E} setup old new line before now (Ok flow)
 answers_whole setup here old new line r flow before now same h given goes = record {
   missed = h.missed;
@@ -47,38 +43,24 @@ answers_whole setup here old new line r flow before now same h given goes = reco
   tells = h.tells;
   state = h.state;
   ok = (
-    subst (λ (v : List ℕ). Appends before now v)
+    subst (λ (v : List ℕ). Gathers before now v)
         (ap (λ (v : Setup). line_reply_text v new r) same ∙ text_is setup old new h.told r h.state h.is) given,
     goes,
   );
   err = tt;
 }
 
-some_left : (n : ℕ) (text : List ℕ) → n < length text → drop n text ≢ []
-some_left n text low none =
-    let k : length (drop n text) ≡ length text - n = length-drop n text in
-    let e : length (drop n text) ≡ 0 = ap length none in
-    omega arith
-
--- a part of the reply was given
+-- writing failed before all was given
 pub answers_part : {E : Type 0} (setup here : Setup) (old new : State) (line : List ℕ) (r : LineReply) (e : E)
-    (before now : Option (List ℕ)) → here ≡ setup → Decides setup old new line r →
-    AppendsPart before now (line_reply_text here new r) →
+    (before now : Output) → here ≡ setup → Decides setup old new line r →
+    GathersPart before now.given (line_reply_text here new r) →
     AnswersLine {E = E} setup old new line before now (Err e)
-answers_part setup here old new line r e before now same h given =
-    let text : line_reply_text here new r ≡ told_text setup old h.told =
-    ap (λ (v : Setup). line_reply_text v new r) same ∙ text_is setup old new h.told r h.state h.is in
-    let part = subst (λ (v : List ℕ). AppendsPart before now v) text given in record {
-      missed = h.missed;
-      told = h.told;
-      tells = h.tells;
-      state = h.state;
-      ok = tt;
-      err = (
-        take part.0 (told_text setup old h.told),
-        drop part.0 (told_text setup old h.told),
-        some_left part.0 (told_text setup old h.told) part.1,
-        take-append-drop part.0 (told_text setup old h.told),
-        part.2,
-      );
-    }
+answers_part setup here old new line r e before now same h given = record {
+  missed = h.missed;
+  told = h.told;
+  tells = h.tells;
+  state = h.state;
+  ok = tt;
+  err = subst (λ (v : List ℕ). GathersPart before now.given v)
+      (ap (λ (v : Setup). line_reply_text v new r) same ∙ text_is setup old new h.told r h.state h.is) given;
+}

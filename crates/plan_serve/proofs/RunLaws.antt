@@ -1,8 +1,7 @@
 -- Runs over lines, joined end to end.
-use Rattle.std.proofs.Common.{◌≡◌, refl, sym, ◌∙◌, ap, subst, inl, inr, ℕ, ◌+◌, Bool, true, false, List, [], ◌∷◌, ◌++◌, append_assoc, Option, Some, None, arith}
+use Rattle.std.proofs.Common.{◌≡◌, refl, sym, ◌∙◌, ap, subst, inr, ℕ, ◌+◌, Bool, true, false, List, [], ◌∷◌, ◌++◌, append_assoc, arith}
 use Rattle.std.specs.Prelude.{IsTrue, MatchBool, All}
 use Rattle.std.proofs.lemmas.List.Elements.{All-cons}
-use Rattle.eon_model.specs.Lists.{has_number}
 use Rattle.eon_model.specs.Network.{Network}
 use Rattle.eon_model.specs.Services.{State}
 use Rattle.eon_model.specs.Legal.{Setup, Legal}

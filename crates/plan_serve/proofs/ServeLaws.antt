@@ -12,9 +12,12 @@ use Rattle.plan_core.specs.Built.{is_built}
 use Rattle.plan_serve.specs.Files.{IsLeft}
 use Rattle.plan_serve.specs.Lines.{has_no_end, most_kept}
 use Rattle.plan_serve.specs.Ends.{Serves, Begins}
-use Rattle.plan_serve.specs.Session.{AreAnswered, Comes, Quits, Breaks, FeedsAll}
+use Rattle.plan_serve.specs.Gathering.{output}
+use Rattle.plan_serve.specs.Session.{AreAnswered, Quits, Breaks, FeedsAll}
+use Rattle.plan_serve.proofs.GatherLaws.{gives_text}
+use Rattle.plan_serve.proofs.InsideLaws.{inside_replies}
 use Rattle.plan_serve.proofs.LineLaws.{no_text_more}
-use Rattle.plan_serve.proofs.MarkLaws.{numbers_marked, Agrees, agrees_marked}
+use Rattle.plan_serve.proofs.MarkLaws.{numbers_marked, agrees_marked}
 use Rattle.plan_serve.proofs.RunLaws.{told_texts-append, Legal-none, marked-legal, tells_all, tells_then, begins_then}
 use Rattle.plan_serve.proofs.TellLaws.{broken_line}
 use Rattle.plan_serve.proofs.FeedLaws.{feeds_none, feeds_more}
@@ -71,7 +74,7 @@ left_ends (Some left) e = e
 
 -- all lines are answered
 pub serves_lines : (setup : Setup) (s : State) (bytes : List ℕ) (lines : List (List ℕ)) (p q : Option (List ℕ)) →
-    lines_of bytes ≡ lines → AreAnswered setup [] s lines p q → Serves setup bytes p q
+    lines_of bytes ≡ lines → AreAnswered setup [] s lines (output p []) (output q []) → Serves setup bytes p q
 serves_lines setup s bytes lines p q is h =
     let missed = numbers_marked 1 h.marks in record {
       missed = missed;
@@ -82,7 +85,7 @@ serves_lines setup s bytes lines p q is h =
             (tells_all setup missed 1 [] lines h.marks h.told h.tells (agrees_marked 1 h.marks));
         is = refl;
       };
-      given = h.given;
+      given = gives_text p q (told_texts setup [] h.told) h.given;
     }
 
 -- the text of the answers before the last, and that of the last
@@ -98,7 +101,7 @@ last_text setup here text told last state is =
 
 -- all lines up to `quit` are answered
 pub serves_quit : (setup : Setup) (bytes : List ℕ) (lines others : List (List ℕ)) (p q : Option (List ℕ)) →
-    lines_of bytes ≡ lines ++ others → Quits setup [] lines p q → Serves setup bytes p q
+    lines_of bytes ≡ lines ++ others → Quits setup [] lines (output p []) (output q []) → Serves setup bytes p q
 serves_quit setup bytes lines others p q is h =
     let c = h.comes in
     let missed = numbers_marked 1 (c.marks ++ h.missed ∷ []) in
@@ -122,13 +125,14 @@ serves_quit setup bytes lines others p q is h =
             )));
         is = refl;
       };
-      given = subst (λ (v : List ℕ). Appends p q v) (last_text setup h.here h.text c.told h.last c.state c.is) h.given;
+      given = subst (λ (v : List ℕ). Appends p q v) (last_text setup h.here h.text c.told h.last c.state c.is)
+          (gives_text p q (h.text ++ told_text setup h.here h.last) h.given);
     }
 
 -- the lines so far are answered, whatever follows
 pub begins_lines : (setup : Setup) (s : State) (bytes : List ℕ) (lines more : List (List ℕ))
     (p q : Option (List ℕ)) → is_setup setup ≡ true → lines_of bytes ≡ lines ++ more →
-    AreAnswered setup [] s lines p q → Begins setup bytes p q
+    AreAnswered setup [] s lines (output p []) (output q []) → Begins setup bytes p q
 begins_lines setup s bytes lines more p q ok is h =
     let missed = numbers_marked 1 (h.marks ++ []) in
     let part = told_texts setup [] h.told ++ [] in (
@@ -138,29 +142,32 @@ begins_lines setup s bytes lines more p q ok is h =
           (begins_then setup missed 1 [] lines more h.marks [] h.told [] h.tells (agrees_marked 1 (h.marks ++ []))
           (λ n agrees. nothing-told setup is_built missed n (state_after_told setup.network [] h.told) more ok
           (marked-legal setup [] lines h.marks h.told ok (Legal-none setup) h.tells) agrees)),
-      subst (λ (v : List ℕ). Appends p q v) (sym (no_text_more (told_texts setup [] h.told))) h.given,
+      subst (λ (v : List ℕ). Appends p q v) (sym (no_text_more (told_texts setup [] h.told)))
+          (gives_text p q (told_texts setup [] h.told) h.given),
     )
 
 -- writing broke off in one of the lines, whatever follows
 pub begins_broken : (setup : Setup) (bytes : List ℕ) (lines others : List (List ℕ)) (p q : Option (List ℕ)) →
-    is_setup setup ≡ true → lines_of bytes ≡ lines ++ others → Breaks setup [] lines p q → Begins setup bytes p q
+    is_setup setup ≡ true → lines_of bytes ≡ lines ++ others → Breaks setup [] lines (output p []) q → Begins setup bytes p q
 begins_broken setup bytes lines others p q ok is h =
-    let c = h.comes in
+    let k = inside_replies setup [] h.here lines h.text h.line h.missed h.last h.given.front h.given.rest h.comes
+    h.given.some h.given.is in
+    let c = k.comes in
     let legal = marked-legal setup [] c.done c.marks c.told ok (Legal-none setup) c.tells in
-    let broken = broken_line setup h.here h.line h.part h.rest h.missed h.last ok
-    (subst (λ (v : State). Legal setup v) (sym c.state) legal) c.tells_last h.some h.is in
+    let broken = broken_line setup k.here k.line k.part k.rest k.missed k.last ok
+    (subst (λ (v : State). Legal setup v) (sym c.state) legal) c.tells_last k.some k.is in
     let missed = numbers_marked 1 (c.marks ++ broken.counts ∷ []) in
-    let part = told_texts setup [] c.told ++ h.part in
-    let whole : lines_of bytes ≡ c.done ++ h.line ∷ (c.more ++ others) =
-    is ∙ ap (λ (v : List (List ℕ)). v ++ others) c.whole ∙ append_assoc c.done (h.line ∷ c.more) others in (
+    let part = told_texts setup [] c.told ++ k.part in
+    let whole : lines_of bytes ≡ c.done ++ k.line ∷ (c.more ++ others) =
+    is ∙ ap (λ (v : List (List ℕ)). v ++ others) c.whole ∙ append_assoc c.done (k.line ∷ c.more) others in (
       missed,
       part,
       subst (λ (v : List (List ℕ)). BeginsToldLines setup is_built missed 1 [] v part) (sym whole)
-          (begins_then setup missed 1 [] c.done (h.line ∷ (c.more ++ others)) c.marks (broken.counts ∷ []) c.told h.part
+          (begins_then setup missed 1 [] c.done (k.line ∷ (c.more ++ others)) c.marks (broken.counts ∷ []) c.told k.part
           c.tells (agrees_marked 1 (c.marks ++ broken.counts ∷ []))
-          (λ n agrees. subst (λ (v : State). BeginsToldLines setup is_built missed n v (h.line ∷ (c.more ++ others))
-          h.part) c.state (broken.begins missed n (c.more ++ others) agrees.0 agrees.1))),
-      subst (λ (v : List ℕ). Appends p q v) (ap (λ (v : List ℕ). v ++ h.part) c.is) h.given,
+          (λ n agrees. subst (λ (v : State). BeginsToldLines setup is_built missed n v (k.line ∷ (c.more ++ others))
+          k.part) c.state (broken.begins missed n (c.more ++ others) agrees.0 agrees.1))),
+      subst (λ (v : List ℕ). Appends p q v) (k.whole ∙ ap (λ (v : List ℕ). v ++ k.part) c.is) h.given.grew,
     )
 
 -- ---- so far
@@ -172,7 +179,7 @@ pub record Going (setup : Setup) (whole left before now : Option (List ℕ)) (st
   pub taken : List ℕ
   pub read : Consumes whole left taken
   pub counted : length taken ≡ count
-  pub fed : FeedsAll setup [] state begun taken before now
+  pub fed : FeedsAll setup [] state begun taken (output before []) (output now [])
 
 pub going_begin : (setup : Setup) (whole before : Option (List ℕ)) (state : State) (begun : List ℕ) →
     state ≡ [] → begun ≡ [] → Going setup whole whole before before state begun 0
@@ -180,21 +187,21 @@ going_begin setup whole before state begun none empty = record {
   taken = [];
   read = consumes_none whole;
   counted = refl;
-  fed = subst (λ (v : State). FeedsAll setup [] v begun [] before before) (sym none)
-      (feeds_none setup [] begun [] before refl empty);
+  fed = subst (λ (v : State). FeedsAll setup [] v begun [] (output before []) (output before [])) (sym none)
+      (feeds_none setup [] begun [] (output before []) refl empty);
 }
 
 pub going_on : (setup here : Setup) (whole left next before now then : Option (List ℕ)) (state last : State)
     (begun new piece : List ℕ) (count : ℕ) → here ≡ setup → Consumes left next piece →
     ((f : List ℕ) → IsTrue (has_no_end f) → begun ≡ take most_kept f →
-    FeedsAll here state last new (f ++ piece) now then) →
+    FeedsAll here state last new (f ++ piece) (output now []) (output then [])) →
     Going setup whole left before now state begun count →
     Going setup whole next before then last new (count + length piece)
 going_on setup here whole left next before now then state last begun new piece count same read more h = record {
   taken = h.taken ++ piece;
   read = consumes_more whole left next h.taken piece h.read read;
   counted = length-append h.taken piece ∙ ap (λ (v : ℕ). v + length piece) h.counted;
-  fed = feeds_more setup [] state last begun new h.taken piece before now then h.fed
-      (subst (λ (v : Setup). FeedsAll v state last new (h.fed.rest ++ piece) now then) same
+  fed = feeds_more setup [] state last begun new h.taken piece (output before []) (output now []) (output then []) h.fed
+      (subst (λ (v : Setup). FeedsAll v state last new (h.fed.rest ++ piece) (output now []) (output then [])) same
       (more h.fed.rest h.fed.unended h.fed.kept));
 }

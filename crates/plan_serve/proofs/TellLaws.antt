@@ -1,19 +1,17 @@
 -- What is told of one line.
-use Rattle.std.proofs.Common.{◌≡◌, ◌≢◌, refl, sym, ◌∙◌, ap, subst, ◌⊎◌, inl, inr, ℕ, ◌+◌, ◌≤◌, Bool, true, false, List, [], ◌∷◌, ◌++◌, length, take, Some, None, arith}
-use Rattle.std.specs.Prelude.{IsTrue, MatchBool, nat_le, codes, ◌==◌}
+use Rattle.std.proofs.Common.{◌≡◌, ◌≢◌, refl, sym, ◌∙◌, ap, subst, ◌⊎◌, inl, inr, ℕ, ◌+◌, ◌≤◌, Bool, true, false, List, [], ◌∷◌, ◌++◌, length, take, None, arith}
+use Rattle.std.specs.Prelude.{MatchBool, nat_le, codes, ◌==◌}
 use Rattle.std.proofs.lemmas.Bool.{cases_Bool, eqb-true, eqb-false, leb-true, le-leb, both_ways, false≢true}
 use Rattle.std.proofs.lemmas.List.{take_all, length-take-le, append-nil}
 use Rattle.eon_model.specs.Lists.{has_number}
 use Rattle.eon_model.specs.Services.{State}
 use Rattle.eon_model.specs.Legal.{Setup, Legal}
 use Rattle.eon_model.specs.NetworkText.{is_setup}
-use Rattle.eon_model.specs.Commands.{Command}
-use Rattle.eon_model.specs.CommandText.{IsLineOf}
 use Rattle.eon_model.specs.Replies.{Reply}
 use Rattle.eon_model.specs.Answers.{Answer, Answers, Long, Fault, Missed, said, is_quit}
 use Rattle.eon_model.specs.Answers as answers
 use Rattle.eon_model.specs.Run.{IsPrefix}
-use Rattle.eon_model.specs.Later.{Told, Now, Tells, Answered, Untold, state_told, told_text, EndsInsideTold, BeginsTold, BeginsToldLines}
+use Rattle.eon_model.specs.Later.{Told, Now, Tells, Answered, Untold, state_told, told_text, EndsInsideTold, BeginsToldLines}
 use Rattle.eon_model.proofs.RunLaws.{Answers-unique}
 use Rattle.eon_model.proofs.BeginRunLaws.{MissesNoneFrom}
 use Rattle.eon_model.proofs.BeginLaws.{nothing-told}

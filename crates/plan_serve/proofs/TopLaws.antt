@@ -1,13 +1,12 @@
 -- How the parts of a call make up its end.
 use Rattle.std.proofs.Common.{◌≡◌, ◌≢◌, refl, sym, ◌∙◌, ap, subst, ◌⊎◌, inl, inr, ℕ, ◌+◌, ◌<◌, ◌≤◌, true, false, List, [], ◌∷◌, ◌++◌, append_assoc, length, take, drop, Option, Some, None, Ok, arith}
-use Rattle.std.specs.Prelude.{IfSome, IsSomeAnd, IsTrue, replicate}
+use Rattle.std.specs.Prelude.{IfSome, IsSomeAnd, replicate}
 use Rattle.std.specs.FinMap.{get}
 use Rattle.std.specs.Io.KnownBytes.{Keeps}
 use Rattle.std.proofs.lemmas.List.{take-append-drop, length-replicate}
 use Rattle.std.proofs.lemmas.Bool.{both_ways}
 use Rattle.eon_model.specs.Legal.{Setup}
 use Rattle.eon_model.specs.NetworkText.{IsNetworkTextOf}
-use Rattle.eon_model.specs.NetworkFault.{network_fault}
 use Rattle.eon_model.specs.Modes.{Task, network_limit, is_long_stream}
 use Rattle.eon_model.specs.Modes.Task.{Dry, Init, Serve, Replay, Drive}
 use Rattle.net_file.specs.declared.fault.NetFault.{NetFault}
@@ -20,7 +19,7 @@ use Rattle.eon_outside.specs.Reading.{NamedFiles, Opens}
 use Rattle.eon_outside.specs.Writing.{AppendsPart}
 use Rattle.eon_outside.specs.WholeFile.{IsFile, IsLonger}
 use Rattle.plan_serve.specs.Files.{IsLeft, IsAcceptedFile, IsRefusedFile, IsLongFile}
-use Rattle.plan_serve.specs.Ends.{AskedAt, GivesLine, NetworkAt, RepliesAt, StatesAt, files_asked, OpenedAt, MayEnd, AnswersAll, StopsReading, FaultsReading, AtNetwork, AtOpening, InStream}
+use Rattle.plan_serve.specs.Ends.{AskedAt, GivesLine, NetworkAt, RepliesAt, StatesAt, files_asked, OpenedAt, MayEnd, StopsReading, FaultsReading, AtNetwork, AtOpening, InStream}
 use Rattle.plan_serve.specs.Session.{ServedAt}
 use Rattle.plan_serve.specs.Parts.{IsLater, ServeEnds, DryEnds}
 use Rattle.plan_serve.proofs.RunLaws.{run-Legal}

@@ -1,6 +1,5 @@
 -- What the planner does with one line.
-use Rattle.std.specs.Prelude.{◌≡◌, ◌≢◌, ℕ, ◌≤◌, ⊤, IsTrue, Bool, true, false, List, [], ◌++◌, length, Option, Result, IfOk, OnErr}
-use Rattle.std.specs.Io.KnownBytes.{Appends}
+use Rattle.std.specs.Prelude.{◌≡◌, ℕ, ◌≤◌, ⊤, IsTrue, Bool, true, false, List, length, Result, IfOk, OnErr}
 use Rattle.eon_model.specs.Services.{State}
 use Rattle.eon_model.specs.Legal.{Setup}
 use Rattle.eon_model.specs.Commands.{Command}
@@ -14,7 +13,8 @@ use Rattle.plan_core.specs.Built.{is_built}
 use Rattle.plan_serve.specs.declared.answering.Flow.{Flow}
 use Rattle.plan_serve.specs.declared.answering.Flow.TheVariants.{On, Ended}
 use Rattle.plan_serve.specs.declared.answering.LineReply.{LineReply}
-use Rattle.plan_serve.specs.declared.answering.LineReply.TheVariants.{Said, Later}
+use Rattle.plan_serve.specs.declared.answering.LineReply.TheVariants.{Said}
+use Rattle.plan_serve.specs.Gathering.{Output, Gathers, GathersPart}
 
 -- what is told is this reply, and it can be told of the state after it
 abbrev pub IsReplyTo : Setup → State → Told → LineReply → Type 0
@@ -50,13 +50,13 @@ abbrev pub GoesOn : Flow → List ℕ → Type 0
 GoesOn On line = is_quit line ≡ false
 GoesOn Ended line = is_quit line ≡ true
 
--- What the planner does with one line, over these bytes given before and after. After a failure a part of the
--- reply was given, and not all of it; the change stands.
-pub record AnswersLine {E : Type 0} (setup : Setup) (old new : State) (line : List ℕ)
-    (before now : Option (List ℕ)) (result : Result Flow E) : Type 0 where
+-- What the planner does with one line: its reply is gathered. After a failure a part of what was held back and of the
+-- reply was given, and not all; the change stands.
+pub record AnswersLine {E : Type 0} (setup : Setup) (old new : State) (line : List ℕ) (before now : Output)
+    (result : Result Flow E) : Type 0 where
   pub missed : Bool
   pub told : Told
   pub tells : Tells setup is_built old line missed told
   pub state : new ≡ state_told setup.network old told
-  pub ok : IfOk result (λ flow. Appends before now (told_text setup old told) × GoesOn flow line)
-  pub err : OnErr result ((part rest : List ℕ) × (rest ≢ []) × (part ++ rest ≡ told_text setup old told) × Appends before now part)
+  pub ok : IfOk result (λ flow. Gathers before now (told_text setup old told) × GoesOn flow line)
+  pub err : OnErr result (GathersPart before now.given (told_text setup old told))

@@ -5,7 +5,7 @@ use Rattle.eon_model.specs.Legal.{Setup}
 use Rattle.eon_model.specs.Modes.{Task}
 use Rattle.net_file.specs.Told.{why_told}
 use Rattle.plan_serve.specs.declared.status.Status.{Status}
-use Rattle.plan_serve.specs.declared.status.Status.TheVariants.{Done, Words, NetRefused, NetLong, ReadFault, Memory, WriteFault, InputLong, Later}
+use Rattle.plan_serve.specs.declared.status.Status.TheVariants.{Done, NetRefused, NetLong, ReadFault, Memory, WriteFault, InputLong}
 use Rattle.plan_serve.specs.declared.top.Asked.{Asked}
 use Rattle.plan_serve.specs.declared.top.Asked.TheVariants as asked
 use Rattle.plan_serve.specs.declared.top.NetworkFile.{NetworkFile}

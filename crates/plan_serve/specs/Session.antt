@@ -1,7 +1,6 @@
 -- What the run over a stream does with a piece of it, and at its end.
-use Rattle.std.specs.Prelude.{◌≡◌, ◌≢◌, ◌⊎◌, ℕ, ⊤, true, false, Bool, List, [], ◌∷◌, ◌++◌, take, IsTrue, Option, Result, Ok, Err}
+use Rattle.std.specs.Prelude.{◌≡◌, ◌⊎◌, ℕ, ⊤, true, false, Bool, List, [], ◌∷◌, ◌++◌, take, IsTrue, Option, Result, Ok, Err}
 use Rattle.std.specs.List.{flat_map, list_all}
-use Rattle.std.specs.Io.KnownBytes.{Appends}
 use Rattle.eon_model.specs.Services.{State}
 use Rattle.eon_model.specs.Legal.{Setup}
 use Rattle.eon_model.specs.Answers.{is_quit}
@@ -12,6 +11,7 @@ use Rattle.plan_serve.specs.declared.status.Status.TheVariants.{Done, ReadFault,
 use Rattle.plan_serve.specs.declared.answering.Flow.{Flow}
 use Rattle.plan_serve.specs.declared.answering.Flow.TheVariants.{On, Ended}
 use Rattle.plan_serve.specs.Files.{IsLeft}
+use Rattle.plan_serve.specs.Gathering.{Output, Gathers, GathersPart}
 use Rattle.plan_serve.specs.Lines.{has_no_end, most_kept}
 use Rattle.plan_serve.specs.Ends.{AnswersAll, StopsAtLong, StopsReading, StopsWriting}
 
@@ -35,13 +35,12 @@ TellsMarked setup state (line ∷ lines) (missed ∷ marks) (t ∷ told) =
 TellsMarked setup state _ _ _ = ⊥
 
 -- These lines are answered, and none is `quit`.
-pub record AreAnswered (setup : Setup) (old new : State) (lines : List (List ℕ)) (before now : Option (List ℕ))
-    : Type 0 where
+pub record AreAnswered (setup : Setup) (old new : State) (lines : List (List ℕ)) (before now : Output) : Type 0 where
   pub marks : List Bool
   pub told : List Told
   pub tells : TellsMarked setup old lines marks told
   pub state : new ≡ state_after_told setup.network old told
-  pub given : Appends before now (told_texts setup old told)
+  pub given : Gathers before now (told_texts setup old told)
 
 -- ---- an answer at which it ends
 
@@ -59,7 +58,7 @@ pub record Comes (setup : Setup) (old : State) (lines : List (List ℕ)) (here :
   pub tells_last : Tells setup is_built here line missed last
 
 -- One of these lines is `quit`, and all up to it are answered.
-pub record Quits (setup : Setup) (old : State) (lines : List (List ℕ)) (before now : Option (List ℕ)) : Type 0 where
+pub record Quits (setup : Setup) (old : State) (lines : List (List ℕ)) (before now : Output) : Type 0 where
   pub here : State
   pub text : List ℕ
   pub line : List ℕ
@@ -67,27 +66,23 @@ pub record Quits (setup : Setup) (old : State) (lines : List (List ℕ)) (before
   pub last : Told
   pub comes : Comes setup old lines here text line missed last
   pub quit : is_quit line ≡ true
-  pub given : Appends before now (text ++ told_text setup here last)
+  pub given : Gathers before now (text ++ told_text setup here last)
 
--- Writing broke off inside the reply to one of these lines.
-pub record Breaks (setup : Setup) (old : State) (lines : List (List ℕ)) (before now : Option (List ℕ)) : Type 0 where
+-- Writing broke off before the replies up to the one to some of these lines were given.
+pub record Breaks (setup : Setup) (old : State) (lines : List (List ℕ)) (before : Output) (now : Option (List ℕ))
+    : Type 0 where
   pub here : State
   pub text : List ℕ
   pub line : List ℕ
   pub missed : Bool
   pub last : Told
   pub comes : Comes setup old lines here text line missed last
-  pub part : List ℕ
-  pub rest : List ℕ
-  pub some : rest ≢ []
-  pub is : part ++ rest ≡ told_text setup here last
-  pub given : Appends before now (text ++ part)
+  pub given : GathersPart before now (text ++ told_text setup here last)
 
 -- ---- a piece
 
 -- The bytes of the line that has begun, and the piece behind it: the lines in it are answered.
-pub record FeedsAll (setup : Setup) (old new : State) (begun bytes : List ℕ) (before now : Option (List ℕ))
-    : Type 0 where
+pub record FeedsAll (setup : Setup) (old new : State) (begun bytes : List ℕ) (before now : Output) : Type 0 where
   pub lines : List (List ℕ)
   pub rest : List ℕ
   pub splits : Splits bytes lines rest
@@ -102,11 +97,11 @@ pub record WithinLines (bytes : List ℕ) (P : List (List ℕ) → Type 0) : Typ
   pub splits : Splits bytes lines rest
   pub holds : P lines
 
-abbrev pub Feeds : {E : Type 0} → Setup → State → State → List ℕ → List ℕ → Option (List ℕ) → Option (List ℕ)
-    → Result Flow E → Type 0
+abbrev pub Feeds : {E : Type 0} → Setup → State → State → List ℕ → List ℕ → Output → Output → Result Flow E
+    → Type 0
 Feeds setup old new begun bytes before now (Ok On) = FeedsAll setup old new begun bytes before now
 Feeds setup old new begun bytes before now (Ok Ended) = WithinLines bytes (λ lines. Quits setup old lines before now)
-Feeds setup old new begun bytes before now (Err _) = WithinLines bytes (λ lines. Breaks setup old lines before now)
+Feeds setup old new begun bytes before now (Err _) = WithinLines bytes (λ lines. Breaks setup old lines before now.given)
 
 -- ---- the end
 
@@ -115,10 +110,10 @@ abbrev pub last_line : List ℕ → List (List ℕ)
 last_line [] = []
 last_line (b ∷ bytes) = (b ∷ bytes) ∷ []
 
-abbrev pub FinishesAt : Setup → State → State → List ℕ → Option (List ℕ) → Option (List ℕ) → Status → Type 0
+abbrev pub FinishesAt : Setup → State → State → List ℕ → Output → Output → Status → Type 0
 FinishesAt setup old new rest before now Done =
     AreAnswered setup old new (last_line rest) before now ⊎ Quits setup old (last_line rest) before now
-FinishesAt setup old new rest before now WriteFault = Breaks setup old (last_line rest) before now
+FinishesAt setup old new rest before now WriteFault = Breaks setup old (last_line rest) before now.given
 FinishesAt setup old new rest before now _ = ⊥
 
 -- ---- the stream that was left of the open file

@@ -5,8 +5,10 @@ ghost use Rattle.eon_model.specs.CommandText.{is_command};
 ghost use Rattle.eon_outside.specs.Faults.{HasCause};
 ghost use Rattle.eon_outside.specs.Writing.{AppendsPart};
 ghost use Rattle.command_text.specs.Told.{told};
+ghost use Rattle.plan_serve.specs.Gathering.{output, Gathers, GathersPart};
 ghost use Rattle.plan_serve.specs.Answering.{Decides, DecidesCommand, CanBeWritten, line_reply_text, GoesOn, AnswersLine};
 
+use crate::gathered::Gathered;
 use command_text::{Command, read_command};
 use eon_outside::{Failed, Sink, write_all};
 use plan_core::{Core, Decision, is_built};
@@ -82,6 +84,31 @@ fn give<K: Sink>(core: &Core, reply: &LineReply, out: &mut K) -> Result<(), Fail
     }
 }
 
+/// Holds the reply back. Where there is no room for it, what was held back is given to the sink, and then the reply.
+fn gather<K: Sink>(
+    core: &Core,
+    reply: &LineReply,
+    replies: &mut Gathered,
+    out: &mut K,
+) -> Result<(), Failed>
+    requires tellable { CanBeWritten core.now.setup core.now.state reply.now }
+    ensures bytes { OnOk result (Gathers (output (K.given out.old) replies.old) (output (K.given out.new) replies.new) (line_reply_text core.now.setup core.now.state reply.now)) }
+    ensures part { OnErr result (GathersPart (output (K.given out.old) replies.old) (K.given out.new) (line_reply_text core.now.setup core.now.state reply.now)) }
+    ensures cause { HasCause (K.faults out.old) (K.faults out.new) result }
+{
+    let before = replies.len();
+    match give(core, reply, replies) {
+        Ok(()) => Ok(()),
+        Err(Failed) => {
+            replies.cut_back(before);
+            match replies.give_to(out) {
+                Ok(()) => give(core, reply, out),
+                Err(Failed) => Err(Failed),
+            }
+        }
+    }
+}
+
 /// Whether the run goes on behind the line.
 fn flow_behind(line: &[u8]) -> Flow
     ensures { GoesOn result line.now }
@@ -93,15 +120,20 @@ fn flow_behind(line: &[u8]) -> Flow
     }
 }
 
-/// Answers one line, without its byte 10: makes the change that it asks for, and gives the reply to the sink. After a
-/// failure a part of the reply was given, and not all of it; the change stands.
-pub(crate) fn answer<K: Sink>(core: &mut Core, line: &[u8], out: &mut K) -> Result<Flow, Failed>
+/// Answers one line, without its byte 10: makes the change that it asks for, and holds the reply back, or gives it to
+/// the sink. After a failure not all replies were given; the change stands.
+pub(crate) fn answer<K: Sink>(
+    core: &mut Core,
+    line: &[u8],
+    replies: &mut Gathered,
+    out: &mut K,
+) -> Result<Flow, Failed>
     ensures setup { core.new.setup ≡ core.old.setup }
-    ensures told { AnswersLine core.old.setup core.old.state core.new.state line.now (K.given out.old) (K.given out.new) result }
+    ensures told { AnswersLine core.old.setup core.old.state core.new.state line.now (output (K.given out.old) replies.old) (output (K.given out.new) replies.new) result }
     ensures cause { HasCause (K.faults out.old) (K.faults out.new) result }
 {
     let reply = reply_to(core, line);
-    match give(core, &reply, out) {
+    match gather(core, &reply, replies, out) {
         Ok(()) => Ok(flow_behind(line)),
         Err(Failed) => Err(Failed),
     }

@@ -5,6 +5,7 @@
 
 mod answering;
 mod fault_line;
+mod gathered;
 mod session;
 pub mod status;
 pub mod top;

@@ -1,5 +1,6 @@
 //! Whole calls: what is written, and the code that comes back.
 mod faults;
+mod gathering;
 mod networks;
 mod rows;
 

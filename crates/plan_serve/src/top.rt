@@ -32,6 +32,9 @@ const LONGEST_NETWORK: usize = 1_048_576;
 /// How many bytes of the command stream are read at a time.
 const PIECE: usize = 65_536;
 
+/// How many bytes of replies are held back.
+const HELD_BACK: usize = 65_536;
+
 /// Does what the words ask for. `dry NET COMMANDS` answers each line of a command stream over a network, up to `quit`:
 /// the files are opened by the shelf, and the replies are given to `out`.
 pub fn plan_main<H: Shelf, K: Sink>(
@@ -182,7 +185,7 @@ fn serve<H: Shelf, K: Sink>(
     ensures write_fault { result ≡ Status.WriteFault → Rose (K.faults out.old) (K.faults out.new) }
     ensures counts { (H.faults shelf.old ≤ H.faults shelf.new) × (K.faults out.old ≤ K.faults out.new) }
 {
-    let Ok(mut session) = Session::open(alloc, setup) else {
+    let Ok(mut session) = Session::open(alloc, setup, HELD_BACK) else {
         return Status::Memory;
     };
     let Ok(mut buffer) = vec![in alloc; 0u8; PIECE] else {

@@ -11,10 +11,10 @@ use eon_outside::{Failed, MemShelf, MemSink, Shelf};
 use std::alloc::{AllocError, Global};
 use std::test::Fail;
 
-const COMMANDS: &[u8] =
+pub(super) const COMMANDS: &[u8] =
     b"place a A B 100 bare ab -14\nplace b A B 100 bare ab -12\nshow a\nrelease a\nquit\n";
 
-const REPLIES: &[u8] =
+pub(super) const REPLIES: &[u8] =
     b"ok place a w ab -14 2\nclash a\nservice a A B 100 bare w ab -14 2\nok release a\nbye\n";
 
 #[test]

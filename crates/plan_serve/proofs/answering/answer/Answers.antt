@@ -12,8 +12,8 @@ returns-clause-told g c =
     answers_part {E = Failed} _ c.reply_to-reply.new.core.setup _ _ _ _ _ _ _ c.reply_to-reply.ensures.setup
     c.reply_to-reply.ensures.decides c.in-Err.ensures.part
 
-pub give-requires : goal.give-requires
-give-requires g c = record {
+pub gather-requires : goal.gather-requires
+gather-requires g c = record {
   tellable = decided_can_be_written _ c.reply_to-reply.new.core.setup _ _ _ _ c.reply_to-reply.ensures.setup
       c.reply_to-reply.ensures.decides;
 }

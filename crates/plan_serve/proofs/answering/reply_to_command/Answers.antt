@@ -1,4 +1,4 @@
-use Rattle.std.proofs.Common.{◌≡◌, sym, ◌∙◌}
+use Rattle.std.proofs.Common.{sym, ◌∙◌}
 use Rattle.std.proofs.lemmas.Bool.{false≢true}
 use Rattle.plan_serve.proofs.DecideLaws.{later_decides, say_decides, change_decides, memory_decides}
 use Rattle.plan_serve.proofs.answering.reply_to_command.Goals as goal

@@ -1,5 +1,4 @@
-use Rattle.std.proofs.Common.{◌≡◌, refl, sym, ap, subst, ℕ, ◌≤◌, List, length, Ok, arith}
-use Rattle.eon_model.specs.Modes.{network_limit}
+use Rattle.std.proofs.Common.{◌≡◌, refl, sym, ap, subst, ℕ, List, length, arith}
 use Rattle.eon_outside.specs.WholeFile.{IsFile}
 use Rattle.plan_serve.proofs.TopLaws.{long_file, refused_file}
 use Rattle.plan_serve.proofs.top.read_network.Goals as goal

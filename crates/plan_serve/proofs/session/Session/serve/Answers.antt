@@ -14,6 +14,7 @@ loop-count-init g c = record {
   within = omega arith;
   setup = refl;
   going = going_begin _ _ _ _ _ c.requires.at_start c.requires.none_begun;
+  held = c.requires.none_held;
   files = refl;
   opened = refl;
   reading = omega arith;
@@ -111,8 +112,18 @@ loop-count-preserved g c =
         counted = went.counted ∙ ap (λ (v : ℕ). c.loop-count.taken + v) size;
         fed = went.fed;
       };
+      held = c.in-Ok-On-feed.ensures.none_held;
       files = c.in-Ok.ensures.files ∙ so_far.files;
       opened = c.in-Ok.ensures.opened ∙ so_far.opened;
       reading = omega (arith, so_far.reading, c.in-Ok.ensures.cause.later);
       writing = omega (arith, so_far.writing, c.in-Ok-On-feed.ensures.cause.later);
     }
+
+pub finish-requires : goal.finish-requires
+finish-requires g c = record { none_held = c.loop-count.invariant.held }
+
+pub feed-requires : goal.feed-requires
+feed-requires g c = record { none_held = c.loop-count.invariant.held }
+
+pub feed-requires-in-loop-count : goal.feed-requires-in-loop-count
+feed-requires-in-loop-count g c = record { none_held = c.loop-count.invariant.held }
