@@ -1,14 +1,13 @@
 -- The answer to `admit`, cause by cause.
-use Rattle.std.proofs.Common.{◌≡◌, refl, sym, ◌∙◌, ap, subst, ℕ, zero, suc, ◌<◌, arith, true, false, List, [], ◌∷◌, ◌++◌, length, find, slice_get, Option, Some, None, not, nat_eq, ◌&&◌}
+use Rattle.std.proofs.Common.{◌≡◌, refl, sym, ◌∙◌, ap, subst, ℕ, zero, suc, ◌<◌, arith, true, false, List, [], ◌∷◌, ◌++◌, length, find, slice_get, Option, Some, None, not, nat_eq}
 use Rattle.std.specs.Prelude.{is_some, nat_le}
 use Rattle.std.specs.Option.{option_map, option_or}
-use Rattle.std.proofs.lemmas.Bool.{and_parts, not-false, leb-false, eqb-true, false_from_ne_true}
-use Rattle.eon_model.specs.Grid.{Units, is_band}
+use Rattle.std.proofs.lemmas.Bool.{not-false, leb-false, eqb-true, false_from_ne_true}
+use Rattle.eon_model.specs.Grid.{Units}
 use Rattle.eon_model.specs.Names.{Name}
 use Rattle.eon_model.specs.Services.{Leg, Service, State, service_of}
 use Rattle.eon_model.specs.Legal.{Setup, Legal}
-use Rattle.eon_model.specs.NetworkText.{is_setup, is_table, is_network}
-use Rattle.eon_model.specs.Numerals.{is_within}
+use Rattle.eon_model.specs.NetworkText.{is_setup}
 use Rattle.eon_model.specs.Candidates.{Candidate}
 use Rattle.eon_model.specs.FirstFit.{Placement, leg_placed, first_placement}
 use Rattle.eon_model.specs.Commands.{Demand}
@@ -20,6 +19,7 @@ use Rattle.eon_model.proofs.FollowLaws.{number_in}
 use Rattle.eon_model.proofs.ClashLaws.{no-some, none_found}
 use Rattle.eon_model.proofs.ChangeLaws.{when-none, last_fits, first_leg-IsFirst}
 use Rattle.eon_model.proofs.ToldLaws.{service-told}
+use Rattle.plan_report.proofs.SetupFacts.{setup-facts}
 use Rattle.admission.specs.FirstClear.{first_clear}
 use Rattle.admission.specs.Laws.{FirstForNewService}
 use Rattle.admission.specs.Told.{answer_for, placement_at, IsPlaceOn}
@@ -96,18 +96,6 @@ module _ (setup : Setup) (d : Demand) (pairs : List Candidate) (found : Option P
 
 -- ---- all of it
 
-band-of : (setup : Setup) → is_setup setup ≡ true → is_band setup.band ≡ true
-band-of s h =
-    let a = and_parts (is_band s.band && nat_le s.guard 64 && is_within 1 16 s.k && is_within 1 4096 s.services
-    && is_within 4096 67108864 s.journal && is_table s.formats) (is_network s.network) h in
-    let b = and_parts (is_band s.band && nat_le s.guard 64 && is_within 1 16 s.k && is_within 1 4096 s.services
-    && is_within 4096 67108864 s.journal) (is_table s.formats) a.0 in
-    let c = and_parts (is_band s.band && nat_le s.guard 64 && is_within 1 16 s.k && is_within 1 4096 s.services)
-    (is_within 4096 67108864 s.journal) b.0 in
-    let d = and_parts (is_band s.band && nat_le s.guard 64 && is_within 1 16 s.k) (is_within 1 4096 s.services) c.0 in
-    let e = and_parts (is_band s.band && nat_le s.guard 64) (is_within 1 16 s.k) d.0 in
-    (and_parts (is_band s.band) (nat_le s.guard 64) e.0).0
-
 -- what is known where the service is not refused
 pub record MayAsk (setup : Setup) (state : State) (d : Demand) : Type 0 where
   pub src : node_numbered setup.network d.src < length setup.network.nodes
@@ -154,7 +142,7 @@ module _ (setup : Setup) (state : State) (d : Demand) where
       ≡ first_placement setup (admit_candidates setup d) (λ l. state ++ new_service setup.network d l ∷ [])
   first-found law ok legal none =
       let may = may-ask setup state d none in
-      law setup state d None (band-of setup ok) legal may.room may.fresh
+      law setup state d None (setup-facts setup ok).band legal may.room may.fresh
 
   pub admit-tried : (o : Outcome) (pairs : List Candidate) → FirstForNewService → is_setup setup ≡ true →
       Legal setup state → refusal setup state d [] ≡ None → pairs ≡ admit_candidates setup d →

@@ -1,13 +1,12 @@
 -- What holds of the changes that wait.
-use Rattle.std.proofs.Common.{◌≡◌, refl, sym, ap, subst, ℕ, [], ◌∷◌, ◌++◌, Option, Some, None, arith, true}
-use Rattle.std.specs.Prelude.{nat_le, Result, Ok, Err, IfOk}
+use Rattle.std.proofs.Common.{◌≡◌, refl, sym, ap, subst, ℕ, [], ◌∷◌, ◌++◌, Option, Some, None}
+use Rattle.std.specs.Prelude.{Result, Ok, Err, IfOk}
 use Rattle.std.specs.declared.alloc.AllocError.{AllocError}
 use Rattle.plan_core.specs.declared.decision.Decision.{Decision}
 use Rattle.plan_core.specs.Seen.{IsKept}
-use Rattle.std.proofs.lemmas.Bool.{and_from, le-leb}
 use Rattle.std.specs.Option.{option_map}
 use Rattle.eon_model.specs.Services.{State}
-use Rattle.eon_model.specs.Legal.{Setup, Legal, is_legal}
+use Rattle.eon_model.specs.Legal.{Setup, Legal}
 use Rattle.eon_model.specs.Events as changes
 use Rattle.eon_model.specs.Step as step
 use Rattle.eon_model.specs.Answers.{Gives}
@@ -18,11 +17,6 @@ use Rattle.plan_core.specs.declared.change.Outcome.{Outcome}
 use Rattle.plan_core.specs.declared.change.Outcome.TheVariants as outcome
 use Rattle.plan_core.specs.Told.{event_told, answer_of, event_of}
 use Rattle.plan_core.specs.Kept.{event_kept, decision_of, outcome_told, MayChange, CanBeKept, change_of, list_after, IsReady, HasRoomFor, CanWait}
-
--- without a service the state is legal
-pub Legal-empty : (setup : Setup) → Legal setup []
-unfolding is_legal
-Legal-empty setup = and_from (nat_le 0 setup.services) true (le-leb 0 setup.services (omega arith)) refl
 
 -- the answer of what an outcome comes to is one that the planner gives
 pub told-Gives : (setup : Setup) (state : State) (o : Outcome) (told : step.Outcome) → outcome_told o ≡ told →

@@ -7,3 +7,4 @@ pub mod PlaceReady
 pub mod ListingLaws
 pub mod AdmitSteps
 pub mod ShownLaws
+pub mod ToldLaws

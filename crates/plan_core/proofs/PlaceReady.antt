@@ -1,9 +1,9 @@
 -- What `place` comes to can be done, and its reply can be told.
-use Rattle.std.proofs.Common.{◌≡◌, refl, sym, ◌∙◌, ap, subst, ℕ, ◌<◌, Bool, true, false, cond, ◌&&◌, List, [], ◌∷◌, ◌++◌, length, map, Option, Some, None, nat_lt}
-use Rattle.std.specs.Prelude.{IfSome, is_some, nat_le, All}
+use Rattle.std.proofs.Common.{◌≡◌, refl, sym, ◌∙◌, ap, subst, ◌<◌, Bool, true, false, cond, ◌&&◌, [], ◌∷◌, ◌++◌, length, map, Option, Some, None, nat_lt}
+use Rattle.std.specs.Prelude.{IfSome, is_some, nat_le}
 use Rattle.std.specs.Option.{option_map, option_or, option_and_then}
-use Rattle.std.specs.List.{list_all, AllByRecursion}
-use Rattle.std.proofs.lemmas.Bool.{and_parts, leb-true, ltb-true}
+use Rattle.std.specs.List.{list_all}
+use Rattle.std.proofs.lemmas.Bool.{and_parts, leb-true}
 use Rattle.std.proofs.lemmas.List.Folds.{find-append}
 use Rattle.std.proofs.lemmas.List.Elements.{All-from_recursion}
 use Rattle.eon_model.specs.declared.Part.TheVariants.{Work, Backup}
@@ -29,6 +29,7 @@ use Rattle.eon_model.proofs.StepLaws.{outcome-Legal}
 use Rattle.leg_state.specs.Parts.{AreFibreNumbers}
 use Rattle.reply_text.specs.Replied.{reply_told}
 use Rattle.reply_text.specs.Tellable.{can_tell}
+use Rattle.reply_text.proofs.ListingLaws.{numbers_in}
 use Rattle.plan_core.specs.declared.change.Change.TheVariants as change
 use Rattle.plan_core.specs.declared.change.Outcome.{Outcome as CodeOutcome}
 use Rattle.plan_core.specs.declared.change.Outcome.TheVariants as outcome
@@ -38,14 +39,6 @@ use Rattle.plan_core.specs.Placing.{EntersOnly, service_asked, paths_asked}
 
 -- ---- numbers of fibres
 
-few-below : (fibres : List ℕ) → list_all (λ i. nat_lt i 128) fibres ≡ true → All (λ n. n < 128) fibres
-few-below fibres h = All-from_recursion (λ n. n < 128) fibres (by fibres h)
-  where
-    by : (xs : List ℕ) → list_all (λ i. nat_lt i 128) xs ≡ true → AllByRecursion (λ n. n < 128) xs
-    by [] h = tt
-    by (x ∷ xs) h = let both = and_parts (nat_lt x 128) (list_all (λ i. nat_lt i 128) xs) h in
-        (ltb-true x 128 both.0, by xs both.1)
-
 text-numbers : (p : changes.PathText) → is_path_text p ≡ true → AreFibreNumbers p.fibres
 text-numbers p h =
     let a = and_parts (nat_le 1 (length p.fibres) && nat_le (length p.fibres) 63
@@ -54,7 +47,7 @@ text-numbers p h =
     (list_all (λ i. nat_lt i 128) p.fibres) a.0 in
     record {
       few = leb-true (length p.fibres) 63 (and_parts (nat_le 1 (length p.fibres)) (nat_le (length p.fibres) 63) b.0).1;
-      below = few-below p.fibres b.1;
+      below = All-from_recursion (λ n. n < 128) p.fibres (numbers_in 128 p.fibres b.1);
     }
 
 leg-numbers : (l : Leg) (back : Option Path) → l.back ≡ back →

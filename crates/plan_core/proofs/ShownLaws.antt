@@ -1,5 +1,5 @@
 -- The first routes within reach can be shown: their fibres are the network's, and a format reaches them.
-use Rattle.std.proofs.Common.{◌≡◌, refl, sym, ◌∙◌, ap, subst, inl, inr, ℕ, zero, suc, ◌≤◌, ◌<◌, max, Bool, true, false, ◌&&◌, not, cond, List, [], ◌∷◌, length, map, filter, find, fold, take, Option, Some, None, arith}
+use Rattle.std.proofs.Common.{◌≡◌, refl, sym, ◌∙◌, ap, subst, inl, inr, ℕ, zero, suc, ◌≤◌, ◌<◌, max, Bool, true, false, not, cond, List, [], ◌∷◌, length, filter, find, fold, take, Some, None, arith}
 use Rattle.std.specs.Prelude.{nat_le, nat_lt, is_some, IfOk, Result, Ok, Err}
 use Rattle.std.specs.declared.alloc.AllocError.{AllocError}
 use Rattle.std.specs.List.{list_all, list_any, AllByRecursion}
@@ -20,13 +20,12 @@ use Rattle.eon_model.proofs.SetupLaws.{setup-EndsAreNodes}
 use Rattle.std.specs.FinSet.{empty}
 use Rattle.std.specs.Option.{option_map}
 use Rattle.eon_model.specs.Names.{Name}
-use Rattle.eon_model.specs.Numerals.{is_within}
 use Rattle.eon_model.specs.Sets.{NumberSet, has_member}
-use Rattle.eon_model.specs.NetworkText.{is_format, is_table, is_network}
 use Rattle.eon_model.specs.Replies.{Reply}
-use Rattle.eon_model.specs.Step.{Outcome, Say, or_else, is_node, node_numbered, routes_shown, routes}
+use Rattle.eon_model.specs.Step.{Say, or_else, is_node, node_numbered, routes_shown, routes}
 use Rattle.eon_model.proofs.FindLaws.{find-none}
 use Rattle.eon_model.proofs.FollowLaws.{number_in}
+use Rattle.plan_report.proofs.SetupFacts.{setup-facts}
 use Rattle.pair_list.proofs.BanLaws.{routes-alike, avoided-none}
 use Rattle.reply_text.specs.Tellable.{can_show}
 
@@ -168,19 +167,11 @@ first-shown setup s t banned k ok some =
 
 -- ---- the answer
 
-setup-formats : (s : Setup) → is_setup s ≡ true → 1 ≤ length s.formats
-setup-formats s h =
-    let a = and_parts _ (is_network s.network) h in
-    let b = and_parts _ (is_table s.formats) a.0 in
-    let t = and_parts (is_within 1 64 (length s.formats) && list_all is_format s.formats) _ b.1 in
-    let n = and_parts (is_within 1 64 (length s.formats)) (list_all is_format s.formats) t.0 in
-    leb-true 1 (length s.formats) (and_parts (nat_le 1 (length s.formats)) (nat_le (length s.formats) 64) n.0).0
-
 -- the routes that are shown can be shown
 pub shown-over : (setup : Setup) (s t : ℕ) (rs : List Route) → is_setup setup ≡ true → rs ≡ routes_shown setup s t →
     list_all (can_show setup) rs ≡ true
 shown-over setup s t rs ok is =
-    ap (list_all (can_show setup)) is ∙ first-shown setup s t (λ fibre. false) setup.k ok (setup-formats setup ok)
+    ap (list_all (can_show setup)) is ∙ first-shown setup s t (λ fibre. false) setup.k ok (setup-facts setup ok).some_formats
 
 -- no fibre is banned
 pub none-banned : (net : Network) (s t k max_km : ℕ) →

@@ -10,12 +10,16 @@ pub mod decision;
 mod demand;
 pub mod event;
 mod fault;
+#[cfg(test)]
+mod fixtures;
 mod listing;
 pub mod machine;
 mod placing;
 mod refusal;
 mod routes_asked;
 mod routes_told;
+#[cfg(test)]
+mod tests;
 
 pub use built::is_built;
 pub use decision::Decision;

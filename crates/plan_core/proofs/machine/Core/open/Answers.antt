@@ -1,4 +1,4 @@
-use Rattle.plan_core.proofs.KeptLaws.{Legal-empty}
+use Rattle.plan_report.proofs.EmptyLaws.{Legal-empty}
 use Rattle.plan_core.proofs.machine.Core.open.Goals as goal
 
 pub invariant_of-result : goal.invariant_of-result
