@@ -52,11 +52,11 @@ answers_all setup whole left next before now then state last begun count short r
           omega (arith, k, h.counted, short));
       serves = elim (more h.fed.rest h.fed.unended h.fed.kept) [
         | inl a ↦ serves_lines setup last (h.taken ++ []) all before then lines
-            (answered_more setup [] state last h.fed.lines (last_line h.fed.rest) (output before []) (output now []) (output then [])
-            h.fed.answered a)
+            (answered_more setup [] state last h.fed.lines (last_line h.fed.rest) (output before [])
+            (output now []) (output then []) h.fed.answered a)
         | inr q ↦ serves_quit setup (h.taken ++ []) all [] before then (lines ∙ sym (no_lines_more all))
-            (quits_after setup [] state h.fed.lines (last_line h.fed.rest) (output before []) (output now []) (output then [])
-            h.fed.answered q)
+            (quits_after setup [] state h.fed.lines (last_line h.fed.rest) (output before [])
+            (output now []) (output then []) h.fed.answered q)
       ];
     }
 
@@ -71,8 +71,8 @@ stops_at_end setup whole left next before now then state begun count ok read end
       told = stream_ends whole next (h.taken ++ []) (consumes_more whole left next h.taken [] h.read read) ends;
       begins = begins_broken setup (h.taken ++ []) all [] before then ok
           (lines_taken setup whole left before now state begun count h ∙ sym (no_lines_more all))
-          (breaks_after setup [] state h.fed.lines (last_line h.fed.rest) (output before []) (output now []) then h.fed.answered
-          (more h.fed.rest h.fed.unended h.fed.kept));
+          (breaks_after setup [] state h.fed.lines (last_line h.fed.rest) (output before []) (output now []) then
+          h.fed.answered (more h.fed.rest h.fed.unended h.fed.kept));
     }
 
 -- ---- within the stream

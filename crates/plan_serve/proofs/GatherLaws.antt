@@ -50,7 +50,8 @@ gathers_more p q r x y h k = record {
   grew = appends_more p.given q.given r.given h.front k.front h.grew k.grew;
 }
 
-pub part_more : (p q : Output) (r : Option (List ℕ)) (x y : List ℕ) → Gathers p q x → GathersPart q r y → GathersPart p r (x ++ y)
+pub part_more : (p q : Output) (r : Option (List ℕ)) (x y : List ℕ) → Gathers p q x → GathersPart q r y →
+    GathersPart p r (x ++ y)
 part_more p q r x y h k = record {
   front = h.front ++ k.front;
   rest = k.rest;

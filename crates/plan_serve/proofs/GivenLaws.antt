@@ -127,7 +127,8 @@ pub last_given : (setup : Setup) (a b : State) (lines : List (List ℕ)) (before
     (held : List ℕ) (q : Output) → held ≡ [] →
     AreAnswered setup a b lines (output before held) q ⊎ Quits setup a lines (output before held) q →
     Appends q.given now q.held →
-    AreAnswered setup a b lines (output before []) (output now []) ⊎ Quits setup a lines (output before []) (output now [])
+    AreAnswered setup a b lines (output before []) (output now [])
+    ⊎ Quits setup a lines (output before []) (output now [])
 last_given setup a b lines before now held q none (inl h) all =
     inl (subst (λ (v : List ℕ). AreAnswered setup a b lines (output before v) (output now [])) none
     (answered_given setup a b lines (output before held) q now h all))
