@@ -6,7 +6,6 @@ pub mod laws;
 pub mod placing;
 mod row;
 mod search;
-mod span;
 mod taken;
 #[cfg(test)]
 mod tests;

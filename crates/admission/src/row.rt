@@ -6,8 +6,8 @@ ghost use Rattle.eon_model.specs.FirstFit.{centres_in};
 ghost use Rattle.admission.specs.FirstClear.{stands_in};
 ghost use Rattle.admission.specs.Free.{are_free, IsFreeWhere, Takes, IsRunFound};
 
-use crate::span::Span;
 use flex_grid::band::Band;
+use leg_state::holding::Span;
 
 /// The greatest number of units of a band.
 const MOST_UNITS: usize = 1024;

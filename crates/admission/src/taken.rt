@@ -2,31 +2,14 @@
 
 ghost use Rattle.std.specs.Prelude.{◌≡◌, not};
 ghost use Rattle.std.specs.Option.{option_copied};
-ghost use Rattle.eon_model.specs.Lists.{has_number};
-ghost use Rattle.eon_model.specs.Names.{same_name};
-ghost use Rattle.eon_model.specs.Route as routes;
 ghost use Rattle.eon_model.specs.Services.{collides, working_holding};
 ghost use Rattle.admission.specs.Clear.{owns, meets_backup_of, work_is_clear_of, back_is_clear_of, work_is_clear_of_service, back_is_clear_of_service, work_is_free, back_is_free};
 ghost use Rattle.admission.specs.Free.{Takes, IsFreeWhere};
 
 use crate::row::Row;
-use crate::span::{channel_span, path_span};
 use flex_grid::band::Band;
+use leg_state::holding::{channel_span, path_span, share_fibre};
 use leg_state::{Leg, Name, Route, Service, Services};
-
-// Whether the fibre is one of the route's.
-fn has_fibre(route: &Route, fibre: u8) -> bool
-    ensures { result ≡ has_number route.now.fibres fibre }
-{
-    route.fibres().contains(&fibre)
-}
-
-// Whether one fibre is in both routes.
-fn share_fibre(p: &Route, q: &Route) -> bool
-    ensures { result ≡ routes.share_fibre p.now q.now }
-{
-    p.fibres().iter().any(|fibre| has_fibre(q, *fibre))
-}
 
 // Takes what the channel of the leg holds on the route.
 fn take_channel(row: &mut Row, route: &Route, leg: &Leg)
@@ -89,19 +72,12 @@ fn take_service_for_back(row: &mut Row, own: bool, work: &Route, route: &Route, 
     }
 }
 
-// Whether the service has this name.
-fn has_name(service: &Service, name: &Name) -> bool
-    ensures { result ≡ same_name service.now.name name.now }
-{
-    service.name == *name
-}
-
 // Whether the service is the owner.
 fn owns(owner: Option<&Name>, service: &Service) -> bool
     ensures { result ≡ owns (option_copied owner.entry) service.now }
 {
     match owner {
-        Some(name) => has_name(service, name),
+        Some(name) => service.is_named(name),
         None => false,
     }
 }

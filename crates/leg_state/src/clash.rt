@@ -5,102 +5,19 @@
 //! other on a common fibre, and where their backups overlap only if no one failure takes both of their
 //! working routes down.
 
-ghost use Rattle.std.specs.Prelude.{◌≡◌, not, ◌==◌};
+ghost use Rattle.std.specs.Prelude.{◌≡◌};
 ghost use Rattle.std.specs.Option.{option_copied};
-ghost use Rattle.eon_model.specs.Grid.{units_of, overlaps, hull};
-ghost use Rattle.eon_model.specs.Lists.{has_number};
-ghost use Rattle.eon_model.specs.Route as routes;
-ghost use Rattle.eon_model.specs.Services.{drift_units, collides, holding_of, working_holding};
+ghost use Rattle.eon_model.specs.Services.{collides};
 ghost use Rattle.eon_model.specs.Legal as legal;
-ghost use Rattle.eon_model.specs.Names.{same_name};
 ghost use Rattle.eon_model.specs.Step.{clashes_with};
 ghost use Rattle.leg_state.specs.Clashes.{is_clear_apart, clashes_apart, clashes_of, first_clash_of};
 
-use crate::leg::{Leg, Path};
+use crate::holding::{Span, channel_span, path_span, share_fibre};
+use crate::leg::Leg;
 use crate::service::Service;
 use crate::services::Services;
 use eon_base::name::Name;
 use net_graph::Route;
-use std::marker::Model;
-
-// The units from one to another, both of them too, wherever they lie.
-#[derive(Drop)]
-struct Span {
-    lo: i32,
-    hi: i32,
-}
-
-impl Model for Span {
-    ghost use Rattle.eon_model.specs.Grid.{Units};
-
-    ghost Value = { Units };
-
-    ghost view = { λ s. record { lo = s.lo; hi = s.hi } };
-}
-
-impl Span {
-    // The units of a slot.
-    fn of_slot(n: i16, m: u16) -> Span
-        ensures { result ≡ units_of (record { n = n; m = m }) }
-    {
-        let centre = i32::from(n);
-        let half = i32::from(m);
-        Span {
-            lo: centre - half,
-            hi: centre + half - 1,
-        }
-    }
-
-    // Whether some unit is in both.
-    fn overlaps(&self, other: &Span) -> bool
-        ensures { result ≡ overlaps self.now other.now }
-    {
-        self.lo <= other.hi && other.lo <= self.hi
-    }
-
-    // All units from the lowest to the highest of the two.
-    fn hull(&self, other: &Span) -> Span
-        ensures { result ≡ hull self.now other.now }
-    {
-        Span {
-            lo: self.lo.min(other.lo),
-            hi: self.hi.max(other.hi),
-        }
-    }
-}
-
-// What the path takes where it stands.
-fn path_span(path: &Path) -> Span
-    ensures { result ≡ units_of path.now.slot }
-{
-    Span::of_slot(path.slot.n(), path.slot.m())
-}
-
-// What the channel takes: where it stands, or all that it drifts over.
-fn work_span(leg: &Leg) -> Span
-    ensures { result ≡ drift_units leg.now.work.slot leg.now.to }
-{
-    let work = &leg.work;
-    let here = path_span(work);
-    match leg.to {
-        Some(to) => here.hull(&Span::of_slot(to, work.slot.m())),
-        None => here,
-    }
-}
-
-// Whether the fibre is one of the route's.
-fn has_fibre(route: &Route, fibre: u8) -> bool
-    ensures { result ≡ has_number route.now.fibres fibre }
-{
-    route.fibres().contains(&fibre)
-}
-
-// Whether one fibre is in both routes.
-fn share_fibre(p: &Route, q: &Route) -> bool
-    ensures { result ≡ routes.share_fibre p.now q.now }
-{
-    p.fibres().iter().any(|fibre| has_fibre(q, *fibre))
-}
 
 // Whether these units of two routes overlap on a common fibre.
 fn collide(p: &Route, p_units: &Span, q: &Route, q_units: &Span) -> bool
@@ -113,9 +30,9 @@ fn collide(p: &Route, p_units: &Span, q: &Route, q_units: &Span) -> bool
 fn work_is_clear(p: &Leg, q: &Leg) -> bool
     ensures { result ≡ legal.work_is_clear p.now q.now }
 {
-    let units = work_span(p);
+    let units = channel_span(p);
     let route = &p.work.route;
-    if collide(route, &units, &q.work.route, &work_span(q)) {
+    if collide(route, &units, &q.work.route, &channel_span(q)) {
         return false;
     }
     match &q.back {
@@ -170,18 +87,11 @@ fn disturbs(leg: &Leg, service: &Service) -> bool
     }
 }
 
-// Whether the service has this name.
-fn has_name(service: &Service, name: &Name) -> bool
-    ensures { result ≡ same_name service.now.name name.now }
-{
-    service.name == *name
-}
-
 // Whether the service is not the owner of the leg, and clashes with it.
 fn disturbs_other(leg: &Leg, owner: &Name, service: &Service) -> bool
     ensures { result ≡ clashes_with (record { owner = owner.now; leg = leg.now }) service.now }
 {
-    if has_name(service, owner) {
+    if service.is_named(owner) {
         return false;
     }
     disturbs(leg, service)

@@ -7,6 +7,7 @@ pub mod clash;
 pub mod fibre_numbers;
 #[cfg(test)]
 mod fixtures;
+pub mod holding;
 pub mod laws;
 pub mod leg;
 #[cfg(test)]

@@ -1,6 +1,7 @@
 //! One live service and its moves.
 
 ghost use Rattle.std.specs.Prelude.{◌≡◌, IsTrue};
+ghost use Rattle.eon_model.specs.Names.{same_name};
 ghost use Rattle.eon_model.specs.Changes.{drifting_to, with_leg, with_next, finished, undone, backup_at};
 ghost use Rattle.leg_state.specs.Asks.{may_drift, may_finish, may_go_back, may_make, may_refit};
 
@@ -52,6 +53,13 @@ impl Model for Service {
 fn let_go(_leg: Leg) {}
 
 impl Service {
+    /// Whether it has this name.
+    pub fn is_named(&self, name: &Name) -> bool
+        ensures { result ≡ same_name self.now.name name.now }
+    {
+        self.name == *name
+    }
+
     // Its channel drifts to the centre.
     pub(crate) fn set_to(&mut self, to: i16)
         ensures { self.new ≡ with_leg (drifting_to to) self.old }

@@ -8,7 +8,6 @@ pub(crate) mod lines;
 pub mod map;
 pub mod report;
 pub mod rows;
-pub(crate) mod span;
 pub mod stats;
 #[cfg(test)]
 mod tests;

@@ -9,8 +9,8 @@ ghost use Rattle.eon_model.specs.FirstFit.{centres_in};
 ghost use Rattle.eon_model.specs.Grid.{unit_count, has_unit};
 ghost use Rattle.plan_report.specs.Counted.{held_by, service_holdings, state_holdings, holders, one_if, Grows, AtMost};
 
-use crate::span::{Span, has_fibre, path_span, work_span};
 use flex_grid::band::Band;
+use leg_state::holding::{Span, channel_span, has_fibre, path_span};
 use leg_state::leg::Leg;
 use leg_state::service::Service;
 use leg_state::services::Services;
@@ -58,8 +58,8 @@ fn count_span(counts: &mut [u32], lowest: i16, units: &Span)
     ensures { Grows lowest (λ u. one_if (has_unit units.now u)) counts.old counts.new }
 {
     let len = counts.len();
-    let from = place_of(i64::from(units.lo), lowest, len);
-    let to = place_of(i64::from(units.hi) + 1, lowest, len);
+    let from = place_of(i64::from(units.lo()), lowest, len);
+    let to = place_of(i64::from(units.hi()) + 1, lowest, len);
     count_places(counts, from, to);
 }
 
@@ -72,7 +72,7 @@ fn count_leg(counts: &mut [u32], lowest: i16, fibre: u8, kind: Kind, leg: &Leg)
     match kind {
         Kind::Work => {
             if has_fibre(&leg.work.route, fibre) {
-                count_span(counts, lowest, &work_span(leg));
+                count_span(counts, lowest, &channel_span(leg));
             }
         }
         Kind::Backup => {

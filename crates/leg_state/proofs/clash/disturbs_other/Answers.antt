@@ -6,4 +6,4 @@ pub returns : goal.returns
 returns c =
     c.disturbs.ensures
     ∙ sym (clashes-apart c.args.leg.now c.args.owner.now c.args.service.now
-    (sym c.has_name.ensures ∙ c.if-has_name.false))
+    (sym c.is_named.ensures ∙ c.if-is_named.false))

@@ -1,7 +1,7 @@
 use Rattle.std.proofs.Common.{◌≡◌, ◌+◌, ℤ, pos, ◌+ℤ◌, ◌-ℤ◌, ◌∙◌, sym, ap, Bool, length, slice_index, arith}
 use Rattle.std.specs.Int.{int_min, int_max}
 use Rattle.std.proofs.lemmas.Int.{ints, clamps}
-use Rattle.eon_model.specs.Grid.{Units, has_unit}
+use Rattle.eon_model.specs.Grid.{Units}
 use Rattle.plan_report.specs.Counted.{one_if}
 use Rattle.plan_report.proofs.CountLemmas.{span_test}
 use Rattle.plan_report.proofs.rows.count_span.Goals as goal
@@ -11,7 +11,9 @@ count_places-requires-clause-within c = omega (arith, ints, clamps)
 
 pub returns : goal.returns
 returns c =
-    let u : Units = record { lo = c.units.inside.lo; hi = c.units.inside.hi } in
+    let u : Units = c.args.units.now in
+    let lowest_unit = c.lo.ensures in
+    let highest_unit = c.hi.ensures in
     let low : ℤ = c.args.lowest in
     let len = length c.args.counts.now in
     let from = c.place_of-from.result in
@@ -23,6 +25,5 @@ returns c =
       same_length = c.count_places.ensures.length;
       each = λ k h. c.count_places.ensures.each k h
           ∙ ap (λ (b : Bool). slice_index c.args.counts.now k + one_if b)
-          (sym (span_test u low len k from to h first last)
-          ∙ ap (λ (v : Units). has_unit v (low +ℤ pos k)) c.units.view_is);
+          (sym (span_test u low len k from to h first last));
     }

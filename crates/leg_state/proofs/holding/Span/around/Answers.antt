@@ -1,7 +1,7 @@
 use Rattle.std.proofs.Common.{◌≡◌, arith}
 use Rattle.std.proofs.lemmas.Int.{ints}
 use Rattle.eon_model.specs.Grid.{Units, units_of, moved_to}
-use Rattle.admission.proofs.span.Span.around.Goals as goal
+use Rattle.leg_state.proofs.holding.Span.around.Goals as goal
 
 same_units : (a b : Units) → a.lo ≡ b.lo → a.hi ≡ b.hi → a ≡ b
 same_units a b p q = λ i. record { lo = p i; hi = q i }
