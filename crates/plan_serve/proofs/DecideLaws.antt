@@ -1,5 +1,6 @@
 -- What is decided on a line.
 use Rattle.std.proofs.Common.{◌≡◌, ◌≢◌, refl, sym, ◌∙◌, ap, subst, ℕ, ◌<◌, ◌≤◌, true, false, List, length, arith}
+use Rattle.std.proofs.lemmas.Bool.{true_from_ne_false}
 use Rattle.std.specs.Prelude.{IsTrue}
 use Rattle.eon_model.specs.Services.{State}
 use Rattle.eon_model.specs.Legal.{Setup}
@@ -35,7 +36,7 @@ pub later_decides : (setup : Setup) (state : State) (c : Command) → is_built c
 later_decides setup state c built = λ line short of. record {
   missed = false;
   told = Told.Later;
-  tells = Untold c refl short of built refl;
+  tells = record { tells = Untold c refl short of built refl; only = tt };
   state = refl;
   is = tt;
 }
@@ -49,8 +50,11 @@ say_decides setup old new c d r is built same gives tellable = λ line short of.
     let told = subst (λ (v : Decision). CanBeTold setup old v) is tellable in record {
       missed = false;
       told = Now (answer_of (Say r));
-      tells = Answered (answer_of (Say r)) (built_here line c of built)
-          (answers.Answered c refl short of given) refl;
+      tells = record {
+        tells = Answered (answer_of (Say r)) (built_here line c of built)
+            (answers.Answered c refl short of given) refl;
+        only = tt;
+      };
       state = same;
       is = (refl, subst (λ (v : State). CanBeTold setup v (Say r)) (sym same) told);
     }
@@ -69,8 +73,11 @@ change_decides setup here old mid new c d e r is built same stays changed gives 
     ∙ ap (λ (v : State). changes.apply setup.network v (event_told e)) stays in record {
       missed = false;
       told = Now (answer_of (Change e r));
-      tells = Answered (answer_of (Change e r)) (built_here line c of built)
-          (answers.Answered c refl short of given) refl;
+      tells = record {
+        tells = Answered (answer_of (Change e r)) (built_here line c of built)
+            (answers.Answered c refl short of given) refl;
+        only = tt;
+      };
       state = after;
       is = (refl, subst (λ (v : State). IsTrue (can_tell setup v (reply_told r))) (sym after) told);
     }
@@ -78,14 +85,17 @@ change_decides setup here old mid new c d e r is built same stays changed gives 
 not_quit : (c : Command) → (takes_memory c ≡ false → ⊥) → c ≢ Command.Quit
 not_quit c free e = free (ap takes_memory e)
 
--- there was no memory
+-- there was no memory, and the command takes some
 pub memory_decides : (setup : Setup) (old new : State) (c : Command) → is_built c ≡ true → new ≡ old →
     (takes_memory c ≡ false → ⊥) → DecidesCommand setup old new c (Said reply.Memory)
 memory_decides setup old new c built same free = λ line short of. record {
   missed = true;
   told = Now (said Reply.Memory);
-  tells = Answered (said Reply.Memory) (built_here line c of built)
-      (answers.Missed c refl short of (not_quit c free) refl) refl;
+  tells = record {
+    tells = Answered (said Reply.Memory) (built_here line c of built)
+        (answers.Missed c refl short of (not_quit c free) refl) refl;
+    only = (c, of, true_from_ne_false (takes_memory c) free);
+  };
   state = same;
   is = (refl, refl);
 }
@@ -97,7 +107,11 @@ long_decides setup state line r long is = subst (λ (v : code.Reply). Decides se
     (record {
       missed = false;
       told = Now (said (Reply.Line 4096));
-      tells = Answered (said (Reply.Line 4096)) (λ c short l. absurd (omega arith)) (answers.Long refl long refl) refl;
+      tells = record {
+        tells = Answered (said (Reply.Line 4096)) (λ c short l. absurd (omega arith)) (answers.Long refl long refl)
+            refl;
+        only = tt;
+      };
       state = refl;
       is = (refl, refl);
     })
@@ -108,8 +122,11 @@ pub fault_decides : (setup : Setup) (state : State) (line : List ℕ) (at : ℕ)
 fault_decides setup state line at short none place = record {
   missed = false;
   told = Now (said (Reply.Line at));
-  tells = Answered (said (Reply.Line at)) (λ c few l. absurd (none (c, l)))
-      (answers.Fault at refl short none place refl) refl;
+  tells = record {
+    tells = Answered (said (Reply.Line at)) (λ c few l. absurd (none (c, l)))
+        (answers.Fault at refl short none place refl) refl;
+    only = tt;
+  };
   state = refl;
   is = (refl, refl);
 }

@@ -15,7 +15,7 @@ use Rattle.plan_serve.proofs.AnswerLaws.{answered_none, answered_more, quits_aft
 use Rattle.plan_serve.proofs.LineLaws.{splits_more, splits_rest, splits_line, no_end-append, no_text_more}
 use Rattle.plan_serve.proofs.KeptLaws.{take_front-append, empty_front}
 use Rattle.plan_serve.proofs.QuitLaws.{is_quit-front}
-use Rattle.plan_serve.proofs.TellLaws.{Tells-front}
+use Rattle.plan_serve.proofs.TellLaws.{TellsLine-front}
 
 -- ---- one line
 
@@ -35,7 +35,7 @@ pub answers_front : {E : Type 0} (setup : Setup) (a b : State) (line : List ℕ)
 answers_front {E} setup a b line p q r h = record {
   missed = h.missed;
   told = h.told;
-  tells = Tells-front setup a line h.missed h.told h.tells;
+  tells = TellsLine-front setup a line h.missed h.told h.tells;
   state = h.state;
   ok = ok_front {E = E} r line (Gathers p q (told_text setup a h.told)) h.ok;
   err = h.err;

@@ -1,8 +1,11 @@
 -- The numbers of the lines that are marked as missed.
-use Rattle.std.proofs.Common.{◌≡◌, refl, ◌∙◌, ap, ℕ, ◌+◌, ◌<◌, Bool, true, false, List, [], ◌∷◌, arith}
-use Rattle.std.specs.Prelude.{◌||◌}
+use Rattle.std.proofs.Common.{◌≡◌, refl, sym, ◌∙◌, ap, subst, ℕ, ◌+◌, ◌<◌, Bool, true, false, List, [], ◌∷◌, arith}
+use Rattle.std.specs.Prelude.{◌||◌, ⊤, IsTrue, MatchBool}
 use Rattle.std.proofs.lemmas.Bool.{eq-eqb, ne_eqb}
 use Rattle.eon_model.specs.Lists.{has_number}
+use Rattle.eon_model.specs.Commands.{Command}
+use Rattle.eon_model.specs.CommandText.{IsLineOf}
+use Rattle.eon_model.specs.Run.{MissesOnly}
 use Rattle.eon_model.proofs.BeginRunLaws.{MissesNoneFrom}
 
 -- the numbers, from this one on, of the lines that are marked
@@ -49,3 +52,13 @@ agrees_marked n (true ∷ marks) = (
   agrees_more n (n + 1) (numbers_marked (n + 1) marks) marks (omega arith) (agrees_marked (n + 1) marks),
 )
 agrees_marked n (false ∷ marks) = (none_below n (n + 1) marks (omega arith), agrees_marked (n + 1) marks)
+
+-- no line is missed
+pub misses_none : (may : Command → Bool) (missed : List ℕ) (n : ℕ) (lines : List (List ℕ)) →
+    MissesNoneFrom missed n → MissesOnly may missed n lines
+misses_none may missed n [] none = tt
+misses_none may missed n (line ∷ lines) none = (
+  subst (λ (b : Bool). MatchBool b ((c : Command) × IsLineOf line c × IsTrue (may c)) ⊤)
+      (sym (none n (omega arith))) tt,
+  misses_none may missed (n + 1) lines (λ k above. none k (omega (arith, above))),
+)

@@ -1,17 +1,18 @@
 -- Runs over lines, joined end to end.
 use Rattle.std.proofs.Common.{◌≡◌, refl, sym, ◌∙◌, ap, subst, inr, ℕ, ◌+◌, Bool, true, false, List, [], ◌∷◌, ◌++◌, append_assoc, arith}
-use Rattle.std.specs.Prelude.{IsTrue, MatchBool, All}
+use Rattle.std.specs.Prelude.{IsTrue, MatchBool, ⊤, All}
 use Rattle.std.proofs.lemmas.List.Elements.{All-cons}
 use Rattle.eon_model.specs.Network.{Network}
 use Rattle.eon_model.specs.Services.{State}
 use Rattle.eon_model.specs.Legal.{Setup, Legal}
 use Rattle.eon_model.specs.NetworkText.{is_setup}
-use Rattle.eon_model.specs.Answers.{is_quit}
-use Rattle.eon_model.specs.Run.{lines_of}
+use Rattle.eon_model.specs.Answers.{is_quit, takes_memory}
+use Rattle.eon_model.specs.Run.{lines_of, MissesOnly}
 use Rattle.eon_model.specs.Later.{Told, Tells, TellsLines, told_text, told_texts, state_told, state_after_told, BeginsToldLines, RunsSoFar}
 use Rattle.eon_model.proofs.LegalLaws.{Legal-from_parts}
 use Rattle.eon_model.proofs.LaterAnswers.{Tells-legal}
 use Rattle.plan_core.specs.Built.{is_built}
+use Rattle.plan_serve.specs.Answering.{TakesMemory}
 use Rattle.plan_serve.specs.Lines.{states_told}
 use Rattle.plan_serve.specs.Session.{TellsMarked}
 use Rattle.plan_serve.proofs.MarkLaws.{Agrees}
@@ -49,7 +50,7 @@ marked-legal setup s (line ∷ lines) [] told ok legal h = absurd h
 marked-legal setup s (line ∷ lines) (m ∷ marks) [] ok legal h = absurd h
 marked-legal setup s (line ∷ lines) (m ∷ marks) (t ∷ told) ok legal h =
     marked-legal setup (state_told setup.network s t) lines marks told ok
-    (Tells-legal setup is_built s line m t ok legal h.0) h.2
+    (Tells-legal setup is_built s line m t ok legal h.0.tells) h.2
 
 rest-legal : (setup : Setup) (missed : List ℕ) (number : ℕ) (s : State) (lines : List (List ℕ)) (quit : Bool)
     (told : List Told) →
@@ -109,7 +110,7 @@ tells_then setup missed number s [] more (m ∷ marks) others told last h agrees
 tells_then setup missed number s (x ∷ lines) more [] others told last h agrees k = absurd h
 tells_then setup missed number s (x ∷ lines) more (m ∷ marks) others [] last h agrees k = absurd h
 tells_then setup missed number s (x ∷ lines) more (m ∷ marks) others (a ∷ told) last h agrees k = (
-  subst (λ (b : Bool). Tells setup is_built s x b a) (sym agrees.0) h.0,
+  subst (λ (b : Bool). Tells setup is_built s x b a) (sym agrees.0) h.0.tells,
   subst (λ (b : Bool). MatchBool b (told ++ last ≡ [])
       (TellsLines setup is_built missed (number + 1) (state_told setup.network s a) (lines ++ more) (told ++ last)))
       (sym h.1)
@@ -134,7 +135,7 @@ begins_then setup missed number s (x ∷ lines) more (m ∷ marks) others (a ∷
     inr (
       a,
       text,
-      subst (λ (b : Bool). Tells setup is_built s x b a) (sym agrees.0) h.0,
+      subst (λ (b : Bool). Tells setup is_built s x b a) (sym agrees.0) h.0.tells,
       append_assoc (told_text setup s a) _ given,
       subst (λ (b : Bool). MatchBool b (text ≡ [])
           (BeginsToldLines setup is_built missed (number + 1) (state_told setup.network s a) (lines ++ more) text))
@@ -153,8 +154,24 @@ tells_all setup missed number s [] (m ∷ marks) told h agrees = absurd h
 tells_all setup missed number s (x ∷ lines) [] told h agrees = absurd h
 tells_all setup missed number s (x ∷ lines) (m ∷ marks) [] h agrees = absurd h
 tells_all setup missed number s (x ∷ lines) (m ∷ marks) (a ∷ told) h agrees = (
-  subst (λ (b : Bool). Tells setup is_built s x b a) (sym agrees.0) h.0,
+  subst (λ (b : Bool). Tells setup is_built s x b a) (sym agrees.0) h.0.tells,
   subst (λ (b : Bool). MatchBool b (told ≡ [])
       (TellsLines setup is_built missed (number + 1) (state_told setup.network s a) lines told)) (sym h.1)
       (tells_all setup missed (number + 1) (state_told setup.network s a) lines marks told h.2 agrees.1),
+)
+
+-- only lines of commands that take memory are missed, where so it is behind the marked lines
+pub misses_then : (setup : Setup) (missed : List ℕ) (number : ℕ) (s : State) (lines more : List (List ℕ))
+    (marks others : List Bool) (told : List Told) → TellsMarked setup s lines marks told →
+    Agrees missed number (marks ++ others) →
+    ((n : ℕ) → Agrees missed n others → MissesOnly takes_memory missed n more) →
+    MissesOnly takes_memory missed number (lines ++ more)
+misses_then setup missed number s [] more [] others [] h agrees k = k number agrees
+misses_then setup missed number s [] more [] others (a ∷ told) h agrees k = absurd h
+misses_then setup missed number s [] more (m ∷ marks) others told h agrees k = absurd h
+misses_then setup missed number s (x ∷ lines) more [] others told h agrees k = absurd h
+misses_then setup missed number s (x ∷ lines) more (m ∷ marks) others [] h agrees k = absurd h
+misses_then setup missed number s (x ∷ lines) more (m ∷ marks) others (a ∷ told) h agrees k = (
+  subst (λ (b : Bool). MatchBool b (TakesMemory x) ⊤) (sym agrees.0) h.0.only,
+  misses_then setup missed (number + 1) (state_told setup.network s a) lines more marks others told h.2 agrees.1 k,
 )

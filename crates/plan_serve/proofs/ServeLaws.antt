@@ -1,24 +1,27 @@
 -- What was read of a stream and answered so far, and the run over it.
 use Rattle.std.proofs.Common.{◌≡◌, refl, sym, ◌∙◌, ap, subst, ℕ, ◌+◌, Bool, true, List, [], ◌∷◌, ◌++◌, append_assoc, length, length-append, take, Option, Some, None}
-use Rattle.std.specs.Prelude.{IsTrue, MatchBool}
+use Rattle.std.specs.Prelude.{IsTrue, MatchBool, ⊤}
 use Rattle.std.specs.Io.KnownBytes.{Appends, Consumes, Keeps, IsAtEnd}
+use Rattle.std.proofs.lemmas.List.{append-nil}
 use Rattle.eon_model.specs.Services.{State}
 use Rattle.eon_model.specs.Legal.{Setup, Legal}
 use Rattle.eon_model.specs.NetworkText.{is_setup}
-use Rattle.eon_model.specs.Run.{lines_of}
+use Rattle.eon_model.specs.Answers.{takes_memory}
+use Rattle.eon_model.specs.Run.{lines_of, MissesOnly}
 use Rattle.eon_model.specs.Later.{Told, Tells, TellsLines, told_text, told_texts, state_told, state_after_told, BeginsToldLines}
 use Rattle.eon_model.proofs.BeginLaws.{nothing-told}
 use Rattle.plan_core.specs.Built.{is_built}
+use Rattle.plan_serve.specs.Answering.{TakesMemory}
 use Rattle.plan_serve.specs.Files.{IsLeft}
 use Rattle.plan_serve.specs.Lines.{has_no_end, most_kept}
 use Rattle.plan_serve.specs.Ends.{Serves, Begins}
 use Rattle.plan_serve.specs.Gathering.{output}
-use Rattle.plan_serve.specs.Session.{AreAnswered, Quits, Breaks, FeedsAll}
+use Rattle.plan_serve.specs.Session.{TellsMarked, AreAnswered, Quits, Breaks, FeedsAll}
 use Rattle.plan_serve.proofs.GatherLaws.{gives_text}
 use Rattle.plan_serve.proofs.InsideLaws.{inside_replies}
 use Rattle.plan_serve.proofs.LineLaws.{no_text_more}
-use Rattle.plan_serve.proofs.MarkLaws.{numbers_marked, agrees_marked}
-use Rattle.plan_serve.proofs.RunLaws.{told_texts-append, Legal-none, marked-legal, tells_all, tells_then, begins_then}
+use Rattle.plan_serve.proofs.MarkLaws.{Agrees, numbers_marked, agrees_marked, misses_none}
+use Rattle.plan_serve.proofs.RunLaws.{told_texts-append, Legal-none, marked-legal, tells_all, tells_then, begins_then, misses_then}
 use Rattle.plan_serve.proofs.TellLaws.{broken_line}
 use Rattle.plan_serve.proofs.FeedLaws.{feeds_none, feeds_more}
 
@@ -85,6 +88,10 @@ serves_lines setup s bytes lines p q is h =
             (tells_all setup missed 1 [] lines h.marks h.told h.tells (agrees_marked 1 h.marks));
         is = refl;
       };
+      only = subst (λ (v : List (List ℕ)). MissesOnly takes_memory missed 1 v) (append-nil lines ∙ sym is)
+          (misses_then setup missed 1 [] lines [] h.marks [] h.told h.tells
+          (subst (λ (v : List Bool). Agrees missed 1 v) (sym (append-nil h.marks)) (agrees_marked 1 h.marks))
+          (λ n agrees. tt));
       given = gives_text p q (told_texts setup [] h.told) h.given;
     }
 
@@ -98,6 +105,19 @@ last_text setup here text told last state is =
     ∙ ap (λ (v : List ℕ). told_texts setup [] told ++ v)
     (sym (no_text_more (told_text setup (state_after_told setup.network [] told) last)))
     ∙ sym (told_texts-append setup [] told (last ∷ []))
+
+-- only lines of commands that take memory are missed: the marked ones, and one behind them
+misses_last : (setup : Setup) (missed : List ℕ) (done : List (List ℕ)) (line : List ℕ) (more : List (List ℕ))
+    (marks : List Bool) (mark : Bool) (told : List Told) → TellsMarked setup [] done marks told →
+    MatchBool mark (TakesMemory line) ⊤ → (all : List (List ℕ)) → all ≡ done ++ line ∷ more →
+    Agrees missed 1 (marks ++ mark ∷ []) → MissesOnly takes_memory missed 1 all
+misses_last setup missed done line more marks mark told tells only all whole agrees =
+    subst (λ (v : List (List ℕ)). MissesOnly takes_memory missed 1 v) (sym whole)
+    (misses_then setup missed 1 [] done (line ∷ more) marks (mark ∷ []) told tells agrees
+    (λ n last. (
+      subst (λ (b : Bool). MatchBool b (TakesMemory line) ⊤) (sym last.0) only,
+      misses_none takes_memory missed (n + 1) more last.1,
+    )))
 
 -- all lines up to `quit` are answered
 pub serves_quit : (setup : Setup) (bytes : List ℕ) (lines others : List (List ℕ)) (p q : Option (List ℕ)) →
@@ -118,13 +138,15 @@ serves_quit setup bytes lines others p q is h =
             (h.last ∷ []) c.tells (agrees_marked 1 (c.marks ++ h.missed ∷ []))
             (λ n agrees. (
               subst (λ (b : Bool). Tells setup is_built after h.line b h.last) (sym agrees.0)
-                  (subst (λ (v : State). Tells setup is_built v h.line h.missed h.last) c.state c.tells_last),
+                  (subst (λ (v : State). Tells setup is_built v h.line h.missed h.last) c.state c.tells_last.tells),
               subst (λ (b : Bool). MatchBool b (◌≡◌ {A = List Told} [] [])
                   (TellsLines setup is_built missed (n + 1) (state_told setup.network after h.last) (c.more ++ others) []))
                   (sym h.quit) refl,
             )));
         is = refl;
       };
+      only = misses_last setup missed c.done h.line (c.more ++ others) c.marks h.missed c.told c.tells c.tells_last.only
+          (lines_of bytes) whole (agrees_marked 1 (c.marks ++ h.missed ∷ []));
       given = subst (λ (v : List ℕ). Appends p q v) (last_text setup h.here h.text c.told h.last c.state c.is)
           (gives_text p q (h.text ++ told_text setup h.here h.last) h.given);
     }
@@ -135,16 +157,20 @@ pub begins_lines : (setup : Setup) (s : State) (bytes : List ℕ) (lines more : 
     AreAnswered setup [] s lines (output p []) (output q []) → Begins setup bytes p q
 begins_lines setup s bytes lines more p q ok is h =
     let missed = numbers_marked 1 (h.marks ++ []) in
-    let part = told_texts setup [] h.told ++ [] in (
-      missed,
-      part,
-      subst (λ (v : List (List ℕ)). BeginsToldLines setup is_built missed 1 [] v part) (sym is)
-          (begins_then setup missed 1 [] lines more h.marks [] h.told [] h.tells (agrees_marked 1 (h.marks ++ []))
-          (λ n agrees. nothing-told setup is_built missed n (state_after_told setup.network [] h.told) more ok
-          (marked-legal setup [] lines h.marks h.told ok (Legal-none setup) h.tells) agrees)),
-      subst (λ (v : List ℕ). Appends p q v) (sym (no_text_more (told_texts setup [] h.told)))
-          (gives_text p q (told_texts setup [] h.told) h.given),
-    )
+    let part = told_texts setup [] h.told ++ [] in
+    let agrees = agrees_marked 1 (h.marks ++ []) in record {
+      missed = missed;
+      part = part;
+      run = subst (λ (v : List (List ℕ)). BeginsToldLines setup is_built missed 1 [] v part) (sym is)
+          (begins_then setup missed 1 [] lines more h.marks [] h.told [] h.tells agrees
+          (λ n none. nothing-told setup is_built missed n (state_after_told setup.network [] h.told) more ok
+          (marked-legal setup [] lines h.marks h.told ok (Legal-none setup) h.tells) none));
+      only = subst (λ (v : List (List ℕ)). MissesOnly takes_memory missed 1 v) (sym is)
+          (misses_then setup missed 1 [] lines more h.marks [] h.told h.tells agrees
+          (λ n none. misses_none takes_memory missed n more none));
+      given = subst (λ (v : List ℕ). Appends p q v) (sym (no_text_more (told_texts setup [] h.told)))
+          (gives_text p q (told_texts setup [] h.told) h.given);
+    }
 
 -- writing broke off in one of the lines, whatever follows
 pub begins_broken : (setup : Setup) (bytes : List ℕ) (lines others : List (List ℕ)) (p q : Option (List ℕ)) →
@@ -159,16 +185,19 @@ begins_broken setup bytes lines others p q ok is h =
     let missed = numbers_marked 1 (c.marks ++ broken.counts ∷ []) in
     let part = told_texts setup [] c.told ++ k.part in
     let whole : lines_of bytes ≡ c.done ++ k.line ∷ (c.more ++ others) =
-    is ∙ ap (λ (v : List (List ℕ)). v ++ others) c.whole ∙ append_assoc c.done (k.line ∷ c.more) others in (
-      missed,
-      part,
-      subst (λ (v : List (List ℕ)). BeginsToldLines setup is_built missed 1 [] v part) (sym whole)
+    is ∙ ap (λ (v : List (List ℕ)). v ++ others) c.whole ∙ append_assoc c.done (k.line ∷ c.more) others in
+    let agrees = agrees_marked 1 (c.marks ++ broken.counts ∷ []) in record {
+      missed = missed;
+      part = part;
+      run = subst (λ (v : List (List ℕ)). BeginsToldLines setup is_built missed 1 [] v part) (sym whole)
           (begins_then setup missed 1 [] c.done (k.line ∷ (c.more ++ others)) c.marks (broken.counts ∷ []) c.told k.part
-          c.tells (agrees_marked 1 (c.marks ++ broken.counts ∷ []))
-          (λ n agrees. subst (λ (v : State). BeginsToldLines setup is_built missed n v (k.line ∷ (c.more ++ others))
-          k.part) c.state (broken.begins missed n (c.more ++ others) agrees.0 agrees.1))),
-      subst (λ (v : List ℕ). Appends p q v) (k.whole ∙ ap (λ (v : List ℕ). v ++ k.part) c.is) h.given.grew,
-    )
+          c.tells agrees
+          (λ n last. subst (λ (v : State). BeginsToldLines setup is_built missed n v (k.line ∷ (c.more ++ others))
+          k.part) c.state (broken.begins missed n (c.more ++ others) last.0 last.1)));
+      only = misses_last setup missed c.done k.line (c.more ++ others) c.marks broken.counts c.told c.tells broken.only
+          (lines_of bytes) whole agrees;
+      given = subst (λ (v : List ℕ). Appends p q v) (k.whole ∙ ap (λ (v : List ℕ). v ++ k.part) c.is) h.given.grew;
+    }
 
 -- ---- so far
 

@@ -1,6 +1,6 @@
 -- What is told of one line.
 use Rattle.std.proofs.Common.{◌≡◌, ◌≢◌, refl, sym, ◌∙◌, ap, subst, ◌⊎◌, inl, inr, ℕ, ◌+◌, ◌≤◌, Bool, true, false, List, [], ◌∷◌, ◌++◌, length, take, None, arith}
-use Rattle.std.specs.Prelude.{MatchBool, nat_le, codes, ◌==◌}
+use Rattle.std.specs.Prelude.{MatchBool, ⊤, nat_le, codes, ◌==◌}
 use Rattle.std.proofs.lemmas.Bool.{cases_Bool, eqb-true, eqb-false, leb-true, le-leb, both_ways, false≢true}
 use Rattle.std.proofs.lemmas.List.{take_all, length-take-le, append-nil}
 use Rattle.eon_model.specs.Lists.{has_number}
@@ -17,6 +17,7 @@ use Rattle.eon_model.proofs.BeginRunLaws.{MissesNoneFrom}
 use Rattle.eon_model.proofs.BeginLaws.{nothing-told}
 use Rattle.eon_model.proofs.LaterAnswers.{line-told, Tells-legal}
 use Rattle.plan_core.specs.Built.{is_built}
+use Rattle.plan_serve.specs.Answering.{TakesMemory, TellsLine}
 use Rattle.plan_serve.specs.Lines.{most_kept}
 
 -- ---- a line that is told by its first bytes
@@ -32,13 +33,27 @@ answers_front setup state line m a more (Missed c x short l q e) =
 answers_front setup state line m a more (answers.Answered c x short l s) =
     let k = length-take-le most_kept line (omega arith) in absurd (omega arith)
 
+-- a line of more bytes than a command has is not missed
+only_front : (setup : Setup) (state : State) (line : List ℕ) (m : Bool) (t : Told) → (length line ≤ most_kept → ⊥) →
+    Tells setup is_built state line m t → MatchBool m (TakesMemory line) ⊤
+only_front setup state line false t more h = tt
+only_front setup state line true t more (Answered a built (Long x long e) is) = absurd (false≢true (sym x))
+only_front setup state line true t more (Answered a built (Fault p x short n f e) is) = absurd (false≢true (sym x))
+only_front setup state line true t more (Answered a built (Missed c x short l q e) is) = absurd (omega arith)
+only_front setup state line true t more (Answered a built (answers.Answered c x short l s) is) =
+    absurd (false≢true (sym x))
+only_front setup state line true t more (Untold c x short l built is) = absurd (false≢true (sym x))
+
 -- a line of more bytes than a command has is told by so many of its bytes
-pub Tells-front : (setup : Setup) (state : State) (line : List ℕ) (m : Bool) (t : Told) →
-    Tells setup is_built state (take most_kept line) m t → Tells setup is_built state line m t
-Tells-front setup state line m t h =
-    elim (nat_le (length line) most_kept) as (λ (b : Bool). nat_le (length line) most_kept ≡ b → Tells setup is_built state line m t) [
-      | true ↦ λ e. subst (λ (v : List ℕ). Tells setup is_built state v m t) (take_all most_kept line (leb-true _ _ e)) h
-      | false ↦ λ e. long (λ short. both_ways _ e (le-leb _ _ short)) h
+pub TellsLine-front : (setup : Setup) (state : State) (line : List ℕ) (m : Bool) (t : Told) →
+    TellsLine setup state (take most_kept line) m t → TellsLine setup state line m t
+TellsLine-front setup state line m t h =
+    elim (nat_le (length line) most_kept) as
+    (λ (b : Bool). nat_le (length line) most_kept ≡ b → TellsLine setup state line m t) [
+      | true ↦ λ e. subst (λ (v : List ℕ). TellsLine setup state v m t) (take_all most_kept line (leb-true _ _ e)) h
+      | false ↦ λ e. let more : (length line ≤ most_kept → ⊥) = (λ short. both_ways _ e (le-leb _ _ short)) in
+          let whole = long more h.tells in
+          record { tells = whole; only = only_front setup state line m t more whole }
     ] refl
   where
     long : (length line ≤ most_kept → ⊥) → Tells setup is_built state (take most_kept line) m t →
@@ -113,6 +128,7 @@ if_quit false P Q p q = q
 -- The line counts as missed or not, and then what was given begins the output from this line on.
 pub record Broken (setup : Setup) (here : State) (line part : List ℕ) : Type 0 where
   pub counts : Bool
+  pub only : MatchBool counts (TakesMemory line) ⊤
   pub begins : (missed : List ℕ) (number : ℕ) (more : List (List ℕ)) → has_number missed number ≡ counts →
       MissesNoneFrom missed (number + 1) → BeginsToldLines setup is_built missed number here (line ∷ more) part
 
@@ -122,6 +138,7 @@ broken_told : (setup : Setup) (here : State) (line part rest : List ℕ) (t : To
     Broken setup here line part
 broken_told setup here line part rest t tells some is = record {
   counts = false;
+  only = tt;
   begins = λ missed number more mark none.
       inl (subst (λ (m : Bool). EndsInsideTold setup is_built here line part m) (sym mark) (record {
         told = t;
@@ -139,6 +156,7 @@ broken_whole : (setup : Setup) (here : State) (line part : List ℕ) (t : Told) 
     Broken setup here line part
 broken_whole setup here line part t ok legal tells is = record {
   counts = false;
+  only = tt;
   begins = λ missed number more mark none. inr (
     t,
     [],
@@ -153,10 +171,11 @@ broken_whole setup here line part t ok legal tells is = record {
 -- a part of the line `memory` that does not begin the other reply
 broken_memory : (setup : Setup) (here : State) (line part rest : List ℕ) (t last : Told) →
     Tells setup is_built here line false t → (IsPrefix part (told_text setup here t) → ⊥) →
-    Tells setup is_built here line true last → rest ≢ [] → part ++ rest ≡ told_text setup here last →
-    Broken setup here line part
-broken_memory setup here line part rest t last tells other missed_tells some is = record {
+    Tells setup is_built here line true last → TakesMemory line → rest ≢ [] →
+    part ++ rest ≡ told_text setup here last → Broken setup here line part
+broken_memory setup here line part rest t last tells other missed_tells may some is = record {
   counts = true;
+  only = may;
   begins = λ missed number more mark none.
       inl (subst (λ (m : Bool). EndsInsideTold setup is_built here line part m) (sym mark) (record {
         told = last;
@@ -176,12 +195,12 @@ broken_memory setup here line part rest t last tells other missed_tells some is 
 }
 
 broken_missed : (setup : Setup) (here : State) (line part rest : List ℕ) (last : Told) → is_setup setup ≡ true →
-    Legal setup here → Tells setup is_built here line true last → rest ≢ [] →
+    Legal setup here → Tells setup is_built here line true last → TakesMemory line → rest ≢ [] →
     part ++ rest ≡ told_text setup here last → Broken setup here line part
-broken_missed setup here line part rest last ok legal tells some is =
+broken_missed setup here line part rest last ok legal tells may some is =
     let own = line-told setup is_built here line legal in
     elim (prefix_or_not part (told_text setup here own.0)) [
-      | inr other ↦ broken_memory setup here line part rest own.0 last own.1 other tells some is
+      | inr other ↦ broken_memory setup here line part rest own.0 last own.1 other tells may some is
       | inl prefix ↦ elim (empty_or_not prefix.0) [
         | inr more ↦ broken_told setup here line part prefix.0 own.0 own.1 more prefix.1
         | inl none ↦ broken_whole setup here line part own.0 ok legal own.1
@@ -191,9 +210,9 @@ broken_missed setup here line part rest last ok legal tells some is =
 
 -- whether the line is missed or not
 pub broken_line : (setup : Setup) (here : State) (line part rest : List ℕ) (missed : Bool) (last : Told) →
-    is_setup setup ≡ true → Legal setup here → Tells setup is_built here line missed last → rest ≢ [] →
+    is_setup setup ≡ true → Legal setup here → TellsLine setup here line missed last → rest ≢ [] →
     part ++ rest ≡ told_text setup here last → Broken setup here line part
 broken_line setup here line part rest true last ok legal tells some is =
-    broken_missed setup here line part rest last ok legal tells some is
+    broken_missed setup here line part rest last ok legal tells.tells tells.only some is
 broken_line setup here line part rest false last ok legal tells some is =
-    broken_told setup here line part rest last tells some is
+    broken_told setup here line part rest last tells.tells some is

@@ -1,11 +1,11 @@
 -- What the planner does with one line.
-use Rattle.std.specs.Prelude.{◌≡◌, ℕ, ◌≤◌, ⊤, IsTrue, Bool, true, false, List, length, Result, IfOk, OnErr}
+use Rattle.std.specs.Prelude.{◌≡◌, ℕ, ◌≤◌, ⊤, IsTrue, MatchBool, Bool, true, false, List, length, Result, IfOk, OnErr}
 use Rattle.eon_model.specs.Services.{State}
 use Rattle.eon_model.specs.Legal.{Setup}
 use Rattle.eon_model.specs.Commands.{Command}
 use Rattle.eon_model.specs.CommandText.{IsLineOf}
 use Rattle.eon_model.specs.ReplyText.{reply_text}
-use Rattle.eon_model.specs.Answers.{is_quit}
+use Rattle.eon_model.specs.Answers.{is_quit, takes_memory}
 use Rattle.eon_model.specs.Later.{Told, Now, Tells, told_text, state_told, later_line}
 use Rattle.reply_text.specs.Replied.{reply_told}
 use Rattle.reply_text.specs.Tellable.{can_tell}
@@ -16,17 +16,26 @@ use Rattle.plan_serve.specs.declared.answering.LineReply.{LineReply}
 use Rattle.plan_serve.specs.declared.answering.LineReply.TheVariants.{Said}
 use Rattle.plan_serve.specs.Gathering.{Output, Gathers, GathersPart}
 
+-- the line is that of a command that takes memory
+abbrev pub TakesMemory : List ℕ → Type 0
+TakesMemory line = (c : Command) × IsLineOf line c × IsTrue (takes_memory c)
+
+-- What the line comes to. A missed line is one for which there was no memory: its command takes some.
+pub record TellsLine (setup : Setup) (state : State) (line : List ℕ) (missed : Bool) (t : Told) : Type 0 where
+  pub tells : Tells setup is_built state line missed t
+  pub only : MatchBool missed (TakesMemory line) ⊤
+
 -- what is told is this reply, and it can be told of the state after it
 abbrev pub IsReplyTo : Setup → State → Told → LineReply → Type 0
 IsReplyTo setup new (Now a) (Said reply) = (a.reply ≡ reply_told reply) × IsTrue (can_tell setup new (reply_told reply))
 IsReplyTo setup new Told.Later LineReply.Later = ⊤
 IsReplyTo setup new _ _ = ⊥
 
--- What is decided on a line. A missed line is one for which there was no memory.
+-- What is decided on a line.
 pub record Decides (setup : Setup) (old new : State) (line : List ℕ) (reply : LineReply) : Type 0 where
   pub missed : Bool
   pub told : Told
-  pub tells : Tells setup is_built old line missed told
+  pub tells : TellsLine setup old line missed told
   pub state : new ≡ state_told setup.network old told
   pub is : IsReplyTo setup new told reply
 
@@ -56,7 +65,7 @@ pub record AnswersLine {E : Type 0} (setup : Setup) (old new : State) (line : Li
     (result : Result Flow E) : Type 0 where
   pub missed : Bool
   pub told : Told
-  pub tells : Tells setup is_built old line missed told
+  pub tells : TellsLine setup old line missed told
   pub state : new ≡ state_told setup.network old told
   pub ok : IfOk result (λ flow. Gathers before now (told_text setup old told) × GoesOn flow line)
   pub err : OnErr result (GathersPart before now.given (told_text setup old told))

@@ -6,6 +6,8 @@ use Rattle.std.specs.Io.KnownBytes.{Appends, Keeps}
 use Rattle.eon_model.specs.Legal.{Setup, Legal}
 use Rattle.eon_model.specs.Modes.{Task, files_read, stream_limit, is_long_stream}
 use Rattle.eon_model.specs.Modes.Task.{Dry}
+use Rattle.eon_model.specs.Answers.{takes_memory}
+use Rattle.eon_model.specs.Run.{lines_of, MissesOnly}
 use Rattle.eon_model.specs.Later.{RunsSoFar, BeginsRunSoFar}
 use Rattle.net_file.specs.Told.{why_told}
 use Rattle.plan_core.specs.Built.{is_built}
@@ -47,17 +49,22 @@ NetworkAt _ files _ = ⊤
 
 -- ---- the replies
 
--- The bytes given grew by the output of a run over these bytes.
+-- The bytes given grew by the output of a run over these bytes, in which each missed line is that of a command that
+-- takes memory.
 pub record Serves (setup : Setup) (bytes : List ℕ) (before now : Option (List ℕ)) : Type 0 where
   pub missed : List ℕ
   pub output : List ℕ
   pub run : RunsSoFar setup is_built bytes missed output
+  pub only : MissesOnly takes_memory missed 1 (lines_of bytes)
   pub given : Appends before now output
 
--- The bytes given grew by a front of the output of a run over these bytes.
-abbrev pub Begins : Setup → List ℕ → Option (List ℕ) → Option (List ℕ) → Type 0
-Begins setup bytes before now =
-    (missed part : List ℕ) × BeginsRunSoFar setup is_built bytes missed part × Appends before now part
+-- The bytes given grew by a front of the output of such a run.
+pub record Begins (setup : Setup) (bytes : List ℕ) (before now : Option (List ℕ)) : Type 0 where
+  pub missed : List ℕ
+  pub part : List ℕ
+  pub run : BeginsRunSoFar setup is_built bytes missed part
+  pub only : MissesOnly takes_memory missed 1 (lines_of bytes)
+  pub given : Appends before now part
 
 -- Below, `IsStream` says which bytes the stream has, and `left` what is left of it at the end.
 

@@ -4,12 +4,12 @@ use Rattle.std.specs.List.{flat_map, list_all}
 use Rattle.eon_model.specs.Services.{State}
 use Rattle.eon_model.specs.Legal.{Setup}
 use Rattle.eon_model.specs.Answers.{is_quit}
-use Rattle.eon_model.specs.Later.{Told, Tells, told_text, told_texts, state_told, state_after_told}
-use Rattle.plan_core.specs.Built.{is_built}
+use Rattle.eon_model.specs.Later.{Told, told_text, told_texts, state_told, state_after_told}
 use Rattle.plan_serve.specs.declared.status.Status.{Status}
 use Rattle.plan_serve.specs.declared.status.Status.TheVariants.{Done, ReadFault, WriteFault, InputLong}
 use Rattle.plan_serve.specs.declared.answering.Flow.{Flow}
 use Rattle.plan_serve.specs.declared.answering.Flow.TheVariants.{On, Ended}
+use Rattle.plan_serve.specs.Answering.{TellsLine}
 use Rattle.plan_serve.specs.Files.{IsLeft}
 use Rattle.plan_serve.specs.Gathering.{Output, Gathers, GathersPart}
 use Rattle.plan_serve.specs.Lines.{has_no_end, most_kept}
@@ -30,7 +30,7 @@ pub record Splits (bytes : List ℕ) (lines : List (List ℕ)) (rest : List ℕ)
 abbrev pub TellsMarked : Setup → State → List (List ℕ) → List Bool → List Told → Type 0
 TellsMarked setup state [] [] [] = ⊤
 TellsMarked setup state (line ∷ lines) (missed ∷ marks) (t ∷ told) =
-    Tells setup is_built state line missed t × (is_quit line ≡ false)
+    TellsLine setup state line missed t × (is_quit line ≡ false)
     × TellsMarked setup (state_told setup.network state t) lines marks told
 TellsMarked setup state _ _ _ = ⊥
 
@@ -55,7 +55,7 @@ pub record Comes (setup : Setup) (old : State) (lines : List (List ℕ)) (here :
   pub tells : TellsMarked setup old done marks told
   pub state : here ≡ state_after_told setup.network old told
   pub is : text ≡ told_texts setup old told
-  pub tells_last : Tells setup is_built here line missed last
+  pub tells_last : TellsLine setup here line missed last
 
 -- One of these lines is `quit`, and all up to it are answered.
 pub record Quits (setup : Setup) (old : State) (lines : List (List ℕ)) (before now : Output) : Type 0 where
