@@ -23,7 +23,7 @@ pub struct Line<'a> {
 }
 
 // A leg that stands on one path without a backup.
-pub fn stands(fibres: &[u8], n: i16) -> Line<'_> {
+pub(crate) fn stands(fibres: &[u8], n: i16) -> Line<'_> {
     Line {
         work: Place { fibres, n },
         to: None,
@@ -32,7 +32,7 @@ pub fn stands(fibres: &[u8], n: i16) -> Line<'_> {
 }
 
 // A leg that drifts to a centre.
-pub fn drifts(fibres: &[u8], n: i16, to: i16) -> Line<'_> {
+pub(crate) fn drifts(fibres: &[u8], n: i16, to: i16) -> Line<'_> {
     Line {
         work: Place { fibres, n },
         to: Some(to),
@@ -41,7 +41,7 @@ pub fn drifts(fibres: &[u8], n: i16, to: i16) -> Line<'_> {
 }
 
 // A leg with a backup.
-pub fn spared<'a>(fibres: &'a [u8], n: i16, spare: &'a [u8], spare_n: i16) -> Line<'a> {
+pub(crate) fn spared<'a>(fibres: &'a [u8], n: i16, spare: &'a [u8], spare_n: i16) -> Line<'a> {
     Line {
         work: Place { fibres, n },
         to: None,
@@ -52,7 +52,7 @@ pub fn spared<'a>(fibres: &'a [u8], n: i16, spare: &'a [u8], spare_n: i16) -> Li
     }
 }
 
-pub fn name(bytes: &[u8]) -> Result<Name, Fail> {
+pub(crate) fn name(bytes: &[u8]) -> Result<Name, Fail> {
     Ok(Name::read(bytes)?)
 }
 
@@ -94,12 +94,12 @@ fn fibres_of_q(rt: &HostRuntime) -> Result<NetBuilder, Fail> {
     Ok(builder)
 }
 
-pub fn network(rt: &HostRuntime) -> Result<Net, Fail> {
+pub(crate) fn network(rt: &HostRuntime) -> Result<Net, Fail> {
     Ok(fibres_of_q(rt)?.build())
 }
 
 // The network with the group duct of A B and D A.
-pub fn network_with_duct(rt: &HostRuntime) -> Result<Net, Fail> {
+pub(crate) fn network_with_duct(rt: &HostRuntime) -> Result<Net, Fail> {
     let mut builder = fibres_of_q(rt)?;
     builder.add_group(name(b"duct")?, &[name(b"ab")?, name(b"da")?])?;
     Ok(builder.build())
@@ -111,7 +111,7 @@ fn path(rt: &HostRuntime, net: &Net, place: Place<'_>) -> Result<Path, Fail> {
     Ok(Path { route, slot })
 }
 
-pub fn leg(rt: &HostRuntime, net: &Net, line: Line<'_>) -> Result<Leg, Fail> {
+pub(crate) fn leg(rt: &HostRuntime, net: &Net, line: Line<'_>) -> Result<Leg, Fail> {
     let work = path(rt, net, line.work)?;
     let back = match line.back {
         Some(place) => Some(path(rt, net, place)?),
@@ -125,7 +125,7 @@ pub fn leg(rt: &HostRuntime, net: &Net, line: Line<'_>) -> Result<Leg, Fail> {
 }
 
 // Puts the service at the end of the list.
-pub fn put(
+pub(crate) fn put(
     services: &mut Services,
     called: &[u8],
     leg: Leg,
@@ -149,7 +149,11 @@ pub fn put(
 }
 
 // The services one, two, .. in order, each with one leg.
-pub fn services_with(rt: &HostRuntime, net: &Net, lines: &[Line<'_>]) -> Result<Services, Fail> {
+pub(crate) fn services_with(
+    rt: &HostRuntime,
+    net: &Net,
+    lines: &[Line<'_>],
+) -> Result<Services, Fail> {
     let mut services = Services::new(rt.alloc());
     for (line, called) in lines.iter().zip([b"one".as_slice(), b"two", b"three"]) {
         put(&mut services, called, leg(rt, net, *line)?, None)?;

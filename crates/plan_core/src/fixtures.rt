@@ -18,7 +18,7 @@ use reply_text::Reply;
 use std::alloc::Global;
 use std::test::Fail;
 
-pub fn name(bytes: &[u8]) -> Result<Name, Fail> {
+pub(crate) fn name(bytes: &[u8]) -> Result<Name, Fail> {
     Ok(Name::read(bytes)?)
 }
 
@@ -72,12 +72,12 @@ fn setup(alloc: Global) -> Result<NetSetup, Fail>
 }
 
 /// The network without a service.
-pub fn open(alloc: Global) -> Result<Core, Fail> {
+pub(crate) fn open(alloc: Global) -> Result<Core, Fail> {
     Ok(Core::open(alloc, setup(alloc)?)?)
 }
 
 /// What the line comes to.
-pub fn decided(core: &mut Core, line: &[u8]) -> Result<Decision, Fail>
+pub(crate) fn decided(core: &mut Core, line: &[u8]) -> Result<Decision, Fail>
     ensures setup { core.new.setup ≡ core.old.setup }
     ensures state { core.new.state ≡ core.old.state }
     ensures waiting { IfOk result (λ d. core.new.waiting ≡ event_of d) }
@@ -96,7 +96,7 @@ pub fn decided(core: &mut Core, line: &[u8]) -> Result<Decision, Fail>
 }
 
 /// Makes the change that the line comes to, and gives its reply.
-pub fn changed(core: &mut Core, line: &[u8]) -> Result<Reply, Fail>
+pub(crate) fn changed(core: &mut Core, line: &[u8]) -> Result<Reply, Fail>
     ensures { IfOk result (λ r. IsTrue (can_tell core.new.setup core.new.state (reply_told r))) }
 {
     match decided(core, line)? {
@@ -109,7 +109,7 @@ pub fn changed(core: &mut Core, line: &[u8]) -> Result<Reply, Fail>
 }
 
 /// The reply to a line that changes nothing.
-pub fn said(core: &mut Core, line: &[u8]) -> Result<Reply, Fail>
+pub(crate) fn said(core: &mut Core, line: &[u8]) -> Result<Reply, Fail>
     ensures { IfOk result (λ r. IsTrue (can_tell core.new.setup core.new.state (reply_told r))) }
 {
     match decided(core, line)? {

@@ -52,7 +52,7 @@ fn table(alloc: Global) -> Result<Table, Fail>
     Ok(table)
 }
 
-pub fn setup(alloc: Global) -> Result<NetSetup, Fail>
+pub(crate) fn setup(alloc: Global) -> Result<NetSetup, Fail>
     ensures { IfOk result (λ setup. IsTrue (is_setup setup)) }
 {
     let net = network(alloc)?;
@@ -177,7 +177,7 @@ fn enter(setup: &NetSetup, services: &mut Services, service: Service) -> Result<
 }
 
 /// Services p and q with backups that share two units of ac, and r on ac above them.
-pub fn three_services(alloc: Global, setup: &NetSetup) -> Result<Services, Fail>
+pub(crate) fn three_services(alloc: Global, setup: &NetSetup) -> Result<Services, Fail>
     ensures { IfOk result (λ services. Legal setup.now services.list) }
 {
     let mut services = Services::new(alloc);
