@@ -6,7 +6,7 @@ use Rattle.std.specs.Fmt.{decimal, signed_decimal}
 use Rattle.std.proofs.lemmas.Bool.{and_parts, and_from, false≢true}
 use Rattle.std.proofs.lemmas.List.{append-nil}
 use Rattle.eon_model.specs.declared.Class.{Class}
-use Rattle.eon_model.specs.declared.Class.TheVariants.{Bare, Shared}
+use Rattle.eon_model.specs.declared.Class.TheVariants.{Bare, Shared, Dual}
 use Rattle.eon_model.specs.Names.{Name, is_name}
 use Rattle.eon_model.specs.Legal.{is_protected}
 use Rattle.eon_model.specs.Commands.{Demand, PathWords}
@@ -14,7 +14,7 @@ use Rattle.eon_model.specs.Listings.{class_word}
 use Rattle.eon_model.specs.Spelling.{spaced, fibre_list}
 use Rattle.eon_model.specs.CommandText.{demand_words, path_words, is_rate, is_centre, is_demand, is_path, has_its_backup}
 use Rattle.command_text.specs.Reading.{Read}
-use Rattle.command_text.specs.Lines.{field_at, demand_at, path_at, back_at}
+use Rattle.command_text.specs.Lines.{field_at, demand_at, path_at, some_path_at, back_at}
 use Rattle.command_text.specs.Words.{behind}
 use Rattle.command_text.proofs.PartLaws.{Open, Open-append, IsPart, part-by, done-part, Then, then-part}
 use Rattle.command_text.proofs.WordLaws.{after-part}
@@ -191,26 +191,33 @@ backs c (Some back) = is_protected c && is_path back
 abbrev pub BackText : Class → Option PathWords → List ℕ → Type 0
 BackText c back t = (backs c back ≡ true) × (t ≡ behind (flat_map path_words (option_to_list back)))
 
-shared_to : (back : Option PathWords) (t : List ℕ) → Then PathText (λ p. Done (Some p)) back t →
-    BackText Shared back t
-shared_to back t h = (
-  ap (backs Shared) h.back_is.0 ∙ h.first_is.0,
+-- the backup of a protected class
+abbrev SomePath : Option PathWords → List ℕ → Type 0
+SomePath = Then PathText (λ p. Done (Some p))
+
+protected_to : (c : Class) → is_protected c ≡ true → (back : Option PathWords) (t : List ℕ) → SomePath back t →
+    BackText c back t
+protected_to c safe back t h = (
+  ap (backs c) h.back_is.0 ∙ ap (λ b. b && is_path h.first) safe ∙ h.first_is.0,
   h.is ∙ (λ i. h.first_is.1 i ++ h.back_is.1 i) ∙ append-nil (behind (path_words h.first)) ∙ ap
       (λ v. behind (flat_map path_words (option_to_list v))) (sym h.back_is.0),
 )
 
-shared_from : (back : Option PathWords) (t : List ℕ) → BackText Shared back t →
-    Then PathText (λ p. Done (Some p)) back t
-shared_from None t h = absurd (false≢true h.0)
-shared_from (Some p) t h = record {
+protected_from : (c : Class) → is_protected c ≡ true → (back : Option PathWords) (t : List ℕ) → BackText c back t →
+    SomePath back t
+protected_from c safe None t h = absurd (false≢true (sym (ap not safe) ∙ h.0))
+protected_from c safe (Some p) t h = record {
   first = p;
   front = t;
   back = [];
-  first_is = (h.0, h.1);
+  first_is = (sym (ap (λ b. b && is_path p) safe) ∙ h.0, h.1);
   back_is =
       (refl, refl);
   is = sym (append-nil t);
 }
+
+some_path_part : IsPart Open SomePath some_path_at
+some_path_part = then-part path-part (λ p. done-part Open (Some p)) (λ p back t h. Done-Open t h) (λ rest h. h)
 
 bare_to : (back : Option PathWords) (t : List ℕ) → Done None back t → BackText Bare back t
 bare_to back t h = (ap (backs Bare) h.0, h.1 ∙ ap (λ v. behind (flat_map path_words (option_to_list v))) (sym h.0))
@@ -222,8 +229,8 @@ bare_from (Some p) t h = absurd (false≢true h.0)
 pub back-part : (c : Class) → IsPart Open (BackText c) (back_at c)
 unfolding back_at
 back-part Bare = part-by (done-part Open None) bare_to bare_from
-back-part Shared = part-by (then-part path-part (λ p. done-part Open (Some p)) (λ p back t h. Done-Open t h)
-    (λ rest h. h)) shared_to shared_from
+back-part Shared = part-by some_path_part (protected_to Shared refl) (protected_from Shared refl)
+back-part Dual = part-by some_path_part (protected_to Dual refl) (protected_from Dual refl)
 
 pub has-backs : (d : Demand) (back : Option PathWords) → has_its_backup d back ≡ backs d.class back
 has-backs d None = refl

@@ -1,7 +1,7 @@
 -- Reading a whole command line.
 use Rattle.std.specs.Prelude.{ℕ, List, [], ◌∷◌, length, min, codes, ◌==◌, if◌then◌else◌, Option, Some, None, Result, Ok, Err}
 use Rattle.eon_model.specs.declared.Class.{Class}
-use Rattle.eon_model.specs.declared.Class.TheVariants.{Bare, Shared}
+use Rattle.eon_model.specs.declared.Class.TheVariants.{Bare, Shared, Dual}
 use Rattle.eon_model.specs.Names.{Name}
 use Rattle.eon_model.specs.Commands.{Demand, PathWords, Command}
 use Rattle.command_text.specs.declared.verb.Verb.{Verb}
@@ -63,11 +63,16 @@ path_at bytes = do
   n ← field_at centre_at fibres.1
   Ok (record { fibres = fibres.0; n = n.0 }, n.1)
 
-unfoldable pub back_at : Class → List ℕ → Read (Option PathWords)
-back_at Bare bytes = Ok (None, bytes)
-back_at Shared bytes = do
+abbrev pub some_path_at : List ℕ → Read (Option PathWords)
+some_path_at bytes = do
   path ← path_at bytes
   Ok (Some path.0, path.1)
+
+-- a backup path, exactly where the class is protected
+unfoldable pub back_at : Class → List ℕ → Read (Option PathWords)
+back_at Bare bytes = Ok (None, bytes)
+back_at Shared bytes = some_path_at bytes
+back_at Dual bytes = some_path_at bytes
 
 -- ---- what follows the verb
 

@@ -2,7 +2,7 @@
 use Rattle.std.specs.Prelude.{ℕ, ◌+◌, ◌-◌, ◌*◌, nat_lt, ◌==◌, ℤ, pos, neg_ℤ, ◌&&◌, ◌||◌, List, [], ◌∷◌, length, take, codes, Option, Some, None, Ok, Err, if◌then◌else◌}
 use Rattle.std.specs.List.{list_all, slice_split}
 use Rattle.eon_model.specs.declared.Class.{Class}
-use Rattle.eon_model.specs.declared.Class.TheVariants.{Bare, Shared}
+use Rattle.eon_model.specs.declared.Class.TheVariants.{Bare, Shared, Dual}
 use Rattle.eon_model.specs.Names.{Name, is_name, is_name_byte}
 use Rattle.eon_model.specs.Numerals.{is_within, is_digit}
 use Rattle.command_text.specs.Reading.{Read, ◌>>=◌, after, Scan, munch}
@@ -47,7 +47,8 @@ unfoldable pub class_at : List ℕ → Read Class
 class_at [] = Err 0
 class_at (b ∷ bytes) =
     if b == 115 then (after (codes "shared") (b ∷ bytes) >>= λ rest. Ok (Shared, rest))
-    else (after (codes "bare") (b ∷ bytes) >>= λ rest. Ok (Bare, rest))
+    else (if b == 100 then (after (codes "dual") (b ∷ bytes) >>= λ rest. Ok (Dual, rest))
+    else (after (codes "bare") (b ∷ bytes) >>= λ rest. Ok (Bare, rest)))
 
 -- names with commas, by the number of bytes of the last one
 abbrev pub fibre_scan : Scan ℕ

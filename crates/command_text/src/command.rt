@@ -23,7 +23,7 @@ pub enum Command<'a> {
         class: Class,
         work: FibreNames<'a>,
         work_n: i16,
-        /// The backup path, exactly where the class is `Shared`.
+        /// The backup path, exactly where the class is protected.
         back: Option<BackWords<'a>>,
     },
     /// Find places for a service, and light it.

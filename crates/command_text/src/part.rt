@@ -156,6 +156,8 @@ pub fn class_at(bytes: &[u8]) -> Result<(Class, &[u8]), Stuck>
     };
     if *first == b's' {
         Ok((Class::Shared, after(b"shared", bytes)?))
+    } else if *first == b'd' {
+        Ok((Class::Dual, after(b"dual", bytes)?))
     } else {
         Ok((Class::Bare, after(b"bare", bytes)?))
     }

@@ -73,6 +73,7 @@ fn push_class(class: Class, out: &mut Vec<u8>) -> Result<(), AllocError>
     match class {
         Class::Bare => push_word(b"bare", out),
         Class::Shared => push_word(b"shared", out),
+        Class::Dual => push_word(b"dual", out),
     }
 }
 

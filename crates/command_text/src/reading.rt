@@ -49,14 +49,14 @@ fn path_at<'a>(fields: &mut Fields<'a>) -> Result<BackWords<'a>, Stuck>
     Ok(BackWords { fibres, n })
 }
 
-// The backup path, which stands there exactly where the class is `Shared`.
+// The backup path, which stands there exactly where the class is protected.
 #[tactic(auto, unfolding(crate::specs::Lines::back_at))]
 fn back_at<'a>(class: Class, fields: &mut Fields<'a>) -> Result<Option<BackWords<'a>>, Stuck>
     ensures { Leaves told_backs result fields.new.rest.now (back_at class fields.old.rest.now) }
 {
     match class {
         Class::Bare => Ok(None),
-        Class::Shared => {
+        Class::Shared | Class::Dual => {
             let back = path_at(fields)?;
             Ok(Some(back))
         }
