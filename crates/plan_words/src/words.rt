@@ -6,7 +6,7 @@ ghost use Rattle.clap.specs.Matches.{found_of};
 ghost use Rattle.clap.specs.Kinds.{FailsBy};
 ghost use Rattle.clap.specs.Values.{kind_of};
 ghost use Rattle.clap.specs.Faults.{fault_of};
-ghost use Rattle.eon_model.specs.Modes.{Task, drive_task, task_of, task_of_values};
+ghost use Rattle.eon_model.specs.Modes.{Task, drive_task, task_of, task_of_two, task_of_three, task_of_values};
 ghost use Rattle.plan_words.specs.CommandLine.{eonplan_app, mode_rule, names_rule, values_found};
 ghost use Rattle.plan_words.specs.AreWords.{AreWords, AskFor, task_asked};
 
@@ -48,6 +48,24 @@ pub enum Words<'a> {
         seed: u64,
         count: u32,
     },
+    /// To bind a journal to a wider network.
+    Migrate {
+        net: &'a str,
+        next: &'a str,
+        journal: &'a str,
+    },
+    /// To answer a stream of failures and repairs, on the services of a journal.
+    Live {
+        net: &'a str,
+        journal: &'a str,
+        commands: &'a str,
+    },
+    /// To answer which moves make room, on the services of a journal.
+    Room {
+        net: &'a str,
+        journal: &'a str,
+        commands: &'a str,
+    },
 }
 
 /// Why words ask for nothing.
@@ -60,8 +78,9 @@ pub enum WordsFault {
 }
 
 /// What the words behind the program's name ask for: `dry NET COMMANDS`, `init NET JOURNAL`,
-/// `serve NET JOURNAL COMMANDS`, `replay NET JOURNAL` or `drive NET SEED COUNT`. A first `--` only marks
-/// that values follow, and a lone `-` is one. Other words are `Refused`; `Memory` is want of memory.
+/// `serve NET JOURNAL COMMANDS`, `replay NET JOURNAL`, `drive NET SEED COUNT`, `migrate NET NEXT JOURNAL`,
+/// `live NET JOURNAL COMMANDS` or `room NET JOURNAL COMMANDS`. A first `--` only marks that values follow,
+/// and a lone `-` is one. Other words are `Refused`; `Memory` is want of memory.
 pub fn words_of<'a>(alloc: Global, words: &'a [String]) -> Result<Words<'a>, WordsFault>
     ensures ok { IfOk result (AreWords (map string_bytes words.entry.now)) }
     ensures task { IfOk result (λ w. task_of (map string_bytes words.entry.now) ≡ Some (task_asked w)) }
@@ -138,31 +157,60 @@ fn words_found<'a>(matches: &ArgMatches<'a>) -> Option<Words<'a>>
 fn words_said<'a>(mode: &str, names: &[&'a str]) -> Option<Words<'a>>
     ensures { option_map task_asked result ≡ task_of_values (mode.now ∷ map (λ name. name.now) names.now) }
 {
+    match names {
+        [net, other] => words_of_two(mode, net, other),
+        [net, other, last] => words_of_three(mode, net, other, last),
+        _ => None,
+    }
+}
+
+// What a mode and two names ask for.
+fn words_of_two<'a>(mode: &str, net: &'a str, other: &'a str) -> Option<Words<'a>>
+    ensures { option_map task_asked result ≡ task_of_two mode.now net.entry.now other.entry.now }
+{
     match mode {
-        "dry" => match names {
-            [net, commands] => Some(Words::Dry { net, commands }),
-            _ => None,
-        },
-        "init" => match names {
-            [net, journal] => Some(Words::Init { net, journal }),
-            _ => None,
-        },
-        "serve" => match names {
-            [net, journal, commands] => Some(Words::Serve {
-                net,
-                journal,
-                commands,
-            }),
-            _ => None,
-        },
-        "replay" => match names {
-            [net, journal] => Some(Words::Replay { net, journal }),
-            _ => None,
-        },
-        "drive" => match names {
-            [net, seed, count] => drive_words(net, seed, count),
-            _ => None,
-        },
+        "dry" => Some(Words::Dry {
+            net,
+            commands: other,
+        }),
+        "init" => Some(Words::Init {
+            net,
+            journal: other,
+        }),
+        "replay" => Some(Words::Replay {
+            net,
+            journal: other,
+        }),
+        _ => None,
+    }
+}
+
+// What a mode and three names ask for.
+fn words_of_three<'a>(mode: &str, net: &'a str, other: &'a str, last: &'a str) -> Option<Words<'a>>
+    ensures { option_map task_asked result ≡ task_of_three mode.now net.entry.now other.entry.now last.entry.now }
+{
+    match mode {
+        "serve" => Some(Words::Serve {
+            net,
+            journal: other,
+            commands: last,
+        }),
+        "drive" => drive_words(net, other, last),
+        "migrate" => Some(Words::Migrate {
+            net,
+            next: other,
+            journal: last,
+        }),
+        "live" => Some(Words::Live {
+            net,
+            journal: other,
+            commands: last,
+        }),
+        "room" => Some(Words::Room {
+            net,
+            journal: other,
+            commands: last,
+        }),
         _ => None,
     }
 }
