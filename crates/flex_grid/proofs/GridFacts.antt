@@ -3,7 +3,7 @@ use Rattle.std.proofs.Common.{◌≡◌, ◌∙◌, ap, ◌≤◌, ℤ, pos, neg
 use Rattle.std.specs.Prelude.{int_le, nat_le}
 use Rattle.std.proofs.lemmas.Bool.{and_parts, and_from, leb-true}
 use Rattle.std.proofs.lemmas.Int.{ints, clamps}
-use Rattle.eon_model.specs.Grid.{Slot, Units, units_of, hull, is_slot, is_units, is_band}
+use Rattle.eon_model.specs.Grid.{Slot, Units, units_of, hull, is_slot, is_units}
 use Rattle.eon_model.proofs.GridLaws.{int_le-le, le-int_le}
 
 pub record UnitsInRange (u : Units) : Type 0 where
@@ -46,9 +46,6 @@ slot-facts s h =
 
 pub slot-units : (s : Slot) → is_slot s ≡ true → is_units (units_of s) ≡ true
 slot-units s h = (and_parts (nat_le 1 s.m && nat_le s.m 512) (is_units (units_of s)) h).1
-
-pub band-units : (b : Units) → is_band b ≡ true → is_units b ≡ true
-band-units b h = (and_parts (is_units b) (int_le (b.hi -ℤ b.lo) (pos 1023)) h).0
 
 -- the units of a slot, from their ends
 pub units_made : (s : Slot) (lo hi : ℤ) → is_slot s ≡ true → lo ≡ (s.n -ℤ pos s.m) →

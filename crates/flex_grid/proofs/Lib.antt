@@ -1,1 +1,2 @@
 pub mod GridFacts
+pub mod BandFacts

@@ -94,29 +94,6 @@ mod tests {
     use super::*;
 
     #[test]
-    fn makes_slots_of_the_grid(rt: HostRuntime) {
-        for (n, m, ends) in [
-            (0, 1, Some((-1, 0))),
-            (0, 512, Some((-512, 511))),
-            (-4095, 1, Some((-4096, -4095))),
-            (4095, 1, Some((4094, 4095))),
-            (-3584, 512, Some((-4096, -3073))),
-            (3584, 512, Some((3072, 4095))),
-            (0, 0, None),
-            (0, 513, None),
-            (-4096, 1, None),
-            (4096, 1, None),
-            (-3585, 512, None),
-            (3585, 512, None),
-            (i16::MIN, 512, None),
-            (i16::MAX, u16::MAX, None),
-        ] {
-            let units = Slot::make(n, m).map(|s| s.units());
-            assert_eq!(rt; units.map(|u| (u.lo(), u.hi())), ends);
-        }
-    }
-
-    #[test]
     fn moves_slots_and_tells_their_centre(rt: HostRuntime) {
         for (n, mhz) in [
             (0, 193_100_000),

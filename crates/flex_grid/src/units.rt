@@ -1,7 +1,8 @@
 //! Ranges of units.
 ghost use Rattle.std.specs.Prelude.{◌≡◌, IsTrue, IfSome};
-ghost use Rattle.eon_model.specs.Grid.{units_of, overlaps, hull, is_units, is_slot};
+ghost use Rattle.eon_model.specs.Grid.{units_of, overlaps, hull, lies_in, is_units, is_slot};
 ghost use Rattle.flex_grid.specs.Makes.{units_from};
+ghost use Rattle.flex_grid.specs.Padded.{blank};
 
 use std::marker::Model;
 
@@ -45,6 +46,13 @@ impl Units {
         }
     }
 
+    // Unit 0 alone.
+    pub(crate) fn blank() -> Units
+        ensures { result ≡ blank }
+    {
+        Units { lo: 0, hi: 0 }
+    }
+
     // The units of a slot.
     pub(crate) fn of_slot(n: i16, m: u16) -> Units
         requires { IsTrue (is_slot (record { n = n; m = m })) }
@@ -73,6 +81,13 @@ impl Units {
         self.hi
     }
 
+    // Whether all units of the other lie in it.
+    pub(crate) fn holds(&self, other: &Units) -> bool
+        ensures { result ≡ lies_in self.now other.now }
+    {
+        self.lo <= other.lo && other.hi <= self.hi
+    }
+
     /// Whether some unit is in both.
     pub fn overlaps(&self, other: &Units) -> bool
         ensures { result ≡ overlaps self.now other.now }
@@ -88,44 +103,5 @@ impl Units {
             lo: self.lo.min(other.lo),
             hi: self.hi.max(other.hi),
         }
-    }
-}
-
-#[cfg(test)]
-mod tests {
-    use super::*;
-    use std::test::Fail;
-
-    #[test]
-    fn makes_ranges_of_the_grid(rt: HostRuntime) {
-        for (lo, hi, made) in [
-            (-4096, 4095, true),
-            (5, 5, true),
-            (5, 4, false),
-            (-4097, 0, false),
-            (0, 4096, false),
-            (i16::MIN, i16::MAX, false),
-        ] {
-            assert_eq!(rt;
-                Units::make(lo, hi).map(|u| (u.lo(), u.hi())),
-                if made { Some((lo, hi)) } else { None }
-            );
-        }
-    }
-
-    #[test]
-    fn compares_ranges(rt: HostRuntime) -> Result<(), Fail> {
-        for (lo, hi, from, to, overlap, least, greatest) in [
-            (0, 3, 3, 5, true, 0, 5),
-            (0, 3, 4, 5, false, 0, 5),
-            (-9, 9, 1, 2, true, -9, 9),
-            (7, 8, -3, -2, false, -3, 8),
-        ] {
-            let first = Units::make(lo, hi).ok_or("no units")?;
-            let second = Units::make(from, to).ok_or("no units")?;
-            assert_eq!(rt; first.overlaps(&second), overlap);
-            assert_eq!(rt; Some(second.hull(&first)), Units::make(least, greatest));
-        }
-        Ok(())
     }
 }
