@@ -1,9 +1,8 @@
 -- Bytes that are given or taken in two steps.
-use Rattle.std.proofs.Common.{◌≡◌, ℕ, ◌+◌, ◌-◌, List, ◌++◌, length, take, drop, Option, None, Some, sym, ap, subst, ◌∙◌, append_assoc, refl}
+use Rattle.std.proofs.Common.{ℕ, ◌+◌, ◌-◌, List, ◌++◌, length, take, drop, Option, None, Some, sym, ap, subst, ◌∙◌, append_assoc}
 use Rattle.std.proofs.Math.Seq.{take-add}
-use Rattle.std.proofs.lemmas.List.{take_rest, take_at, take-append-drop}
+use Rattle.std.proofs.lemmas.List.{take_rest}
 use Rattle.std.specs.Io.KnownBytes.{Appends, Consumes}
-use Rattle.eon_outside.specs.WholeFile.{BeginsWith}
 
 pub appends_more : (a b c : Option (List ℕ)) (xs ys : List ℕ) → Appends a b xs → Appends b c ys → Appends a c (xs ++ ys)
 appends_more None b c xs ys p q = tt
@@ -24,20 +23,3 @@ appends_of_piece a b c piece done n p q =
     let P : List ℕ → Type 0 = λ v. Appends b c (take n v) in
     let Q : List ℕ → Type 0 = λ v. Appends a c v in
     subst Q (sym (take-add done n piece)) (appends_more a b c _ _ p (subst P (take_rest piece done) q))
-
--- what was taken first stands at the front
-pub begins_of_consumes : (a b : Option (List ℕ)) (xs : List ℕ) → Consumes a b xs → BeginsWith a xs
-begins_of_consumes None b xs p = tt
-begins_of_consumes (Some os) None xs p = absurd p
-begins_of_consumes (Some os) (Some bs) xs p = rw p (take_at xs bs (length xs) refl)
-
--- the front of what was taken in two steps
-pub begins_of_two : (a b c : Option (List ℕ)) (xs ys : List ℕ) (n : ℕ) → Consumes a b xs → Consumes b c ys → BeginsWith a (xs ++ take n ys)
-begins_of_two None b c xs ys n p q = tt
-begins_of_two (Some os) None c xs ys n p q = absurd p
-begins_of_two (Some os) (Some bs) None xs ys n p q = absurd q
-begins_of_two (Some os) (Some bs) (Some cs) xs ys n p q =
-    let whole : os ≡ (xs ++ take n ys) ++ (drop n ys ++ cs) =
-    p ∙ ap (λ v. xs ++ v) (q ∙ ap (λ v. v ++ cs) (sym (take-append-drop n ys)) ∙ append_assoc (take n ys) (drop n ys) cs)
-    ∙ sym (append_assoc xs (take n ys) (drop n ys ++ cs)) in
-    rw whole (take_at (xs ++ take n ys) (drop n ys ++ cs) (length (xs ++ take n ys)) refl)

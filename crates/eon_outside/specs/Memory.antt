@@ -1,9 +1,9 @@
 -- What contracts see of the files and the output that are held in memory.
-use Rattle.std.specs.Prelude.{ℕ, ◌==◌, nat_lt, nat_le, Bool, ◌&&◌, List, [], length, slice_index_or, if◌then◌else◌, refl}
+use Rattle.std.specs.Prelude.{◌≡◌, ℕ, ◌==◌, nat_lt, nat_le, Bool, true, false, ◌&&◌, List, [], ◌∷◌, length, slice_index_or, if◌then◌else◌, Option, Some, None, refl}
 use Rattle.std.specs.List.{list_any}
 use Rattle.std.specs.FinMap as map_of
 use Rattle.std.specs.Coded.{Coded, code_by, coded×, coded_ℕ, coded_list}
-use Rattle.eon_outside.specs.Faults.{counted}
+use Rattle.eon_outside.specs.Faults.{counted, Standing}
 use Rattle.eon_outside.specs.Reading.{NamedFiles}
 
 -- The calls of an object: the numbers of those that are to fail, counted from 1, how many were made, and how many failed.
@@ -15,6 +15,11 @@ pub record CallPlan : Type 0 where
 -- whether the next call is one that is to fail
 abbrev pub is_due : CallPlan → Bool
 is_due plan = list_any (λ n. n == counted plan.calls) plan.fails
+
+-- whether no call is to fail
+abbrev pub is_calm : List ℕ → Bool
+is_calm [] = true
+is_calm (n ∷ fails) = false
 
 -- after one more call, that failed or did not
 abbrev pub after_call : CallPlan → Bool → CallPlan
@@ -45,6 +50,19 @@ pub record HeldOutput : Type 0 where
 -- whether a piece that is not empty finds no room
 abbrev pub is_full_for : HeldOutput → List ℕ → Bool
 is_full_for output piece = nat_lt 0 (length piece) && nat_le output.room (length output.given)
+
+-- The room of which it is sure: all of it where no call is to fail and none failed before it was full.
+abbrev pub sure_room : HeldOutput → Option ℕ
+sure_room output = if is_calm output.plan.fails
+    then if output.plan.faults == 0 then Some output.room else if nat_le output.room (length output.given) then Some output.room else None
+    else None
+
+-- no call fails before all room is taken, where none is to fail
+abbrev pub IsFilledFirst : HeldOutput → Type 0
+IsFilledFirst output = sure_room output ≡ (if is_calm output.plan.fails then Some output.room else None)
+
+abbrev pub standing_of : HeldOutput → Standing
+standing_of output = record { faults = output.plan.faults; room = sure_room output; through = [] }
 
 -- the bytes of the entry at this place
 abbrev pub bytes_at : List (List ℕ × List ℕ) → ℕ → List ℕ

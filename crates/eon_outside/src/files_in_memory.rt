@@ -5,9 +5,9 @@ ghost use Rattle.std.specs.Ordering.{nat_cmp};
 ghost use Rattle.std.specs.Cmp.Lexicographic.{slice_cmp};
 ghost use Rattle.std.specs.Io.{ReadsAtMost};
 ghost use Rattle.std.specs.Io.KnownBytes.{ReadConsumes};
-ghost use Rattle.eon_outside.specs.Faults.{HasCause};
-ghost use Rattle.eon_outside.specs.Reading.{Opens};
-ghost use Rattle.eon_outside.specs.Memory.{HeldFiles, is_due, after_call, plan_of, bytes_at, files_code};
+ghost use Rattle.eon_outside.specs.Faults.{Counts};
+ghost use Rattle.eon_outside.specs.Reading.{Opens, OpensCalmly, StaysCalm};
+ghost use Rattle.eon_outside.specs.Memory.{HeldFiles, is_due, is_calm, after_call, plan_of, bytes_at, files_code};
 
 use crate::call_plan::CallPlan;
 use crate::opened_names::OpenedNames;
@@ -97,11 +97,14 @@ impl Shelf for MemShelf {
 
     ghost faults = { λ s. s.plan.faults };
 
+    ghost calm = { λ s. is_calm s.plan.fails };
+
     fn open(&mut self, name: &str) -> Result<(), Failed>
         ensures bytes { Opens (Some self.old.files) name.now (Some self.new.left) result }
         ensures files { self.new.files ≡ self.old.files }
         ensures opened { self.new.opened ≡ self.old.opened ++ name.now ∷ [] }
-        ensures cause { HasCause self.old.plan.faults self.new.plan.faults result }
+        ensures counts { Counts self.old.plan.faults self.new.plan.faults result }
+        ensures calm { OpensCalmly (is_calm self.old.plan.fails) (is_calm self.new.plan.fails) (Some self.old.files) name.now result }
         ensures when { is_ok result ≡ (not (is_due self.old.plan) && is_some (get self.old.files name.now)) }
         ensures plan { self.new.plan ≡ after_call self.old.plan (is_err result) }
         ensures most { self.new.most ≡ self.old.most }
@@ -129,7 +132,8 @@ impl Shelf for MemShelf {
         ensures bytes { ReadConsumes (Some self.old.left) (Some self.new.left) result buf.new }
         ensures files { self.new.files ≡ self.old.files }
         ensures opened { self.new.opened ≡ self.old.opened }
-        ensures cause { HasCause self.old.plan.faults self.new.plan.faults result }
+        ensures counts { Counts self.old.plan.faults self.new.plan.faults result }
+        ensures calm { StaysCalm (is_calm self.old.plan.fails) (is_calm self.new.plan.fails) result }
         ensures when { is_ok result ≡ not (is_due self.old.plan) }
         ensures count { IfOk result (λ n. n ≡ min self.old.most (min (length buf.old) (length self.old.left))) }
         ensures plan { self.new.plan ≡ after_call self.old.plan (is_err result) }

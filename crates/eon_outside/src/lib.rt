@@ -1,10 +1,10 @@
 //! What the planner reads from and writes to: the traits `Shelf` and `Sink`, both held in memory for tests and over
-//! the real files and standard output. The layer above works over the traits, whose clauses say what was read, opened
-//! and given where an object tells it, and that a call fails only where the object's count of faults rose.
+//! the real files and standard output, and a sink that holds bytes back for another. The layer above works over the traits,
+//! whose clauses say what was read, opened and given where an object tells it, and count the calls that failed.
 #![tactic(auto)]
 
+pub mod buffered;
 mod call_plan;
-pub mod copying;
 pub mod files_in_memory;
 mod opened_names;
 pub mod output_in_memory;
@@ -14,7 +14,7 @@ pub mod real_output;
 pub mod whole_file;
 pub mod writing;
 
-pub use copying::{CopyFault, copy_up_to};
+pub use buffered::Buffered;
 pub use files_in_memory::MemShelf;
 pub use output_in_memory::MemSink;
 pub use reading::{Failed, Shelf};

@@ -1,9 +1,10 @@
 //! Output held in memory, taken in pieces, with faults at chosen calls.
 ghost use Rattle.std.specs.Prelude.{◌≡◌, ◌-◌, ◌<◌, ◌≤◌, ◌||◌, ℕ, [], length, min, Some, IfOk, is_err, vec_len, vec_capacity};
 ghost use Rattle.std.specs.Io.KnownBytes.{WriteAppends};
-ghost use Rattle.eon_outside.specs.Faults.{HasCause};
+ghost use Rattle.eon_outside.specs.Faults.{Stands};
 ghost use Rattle.eon_outside.specs.Writing.{TakesSome};
-ghost use Rattle.eon_outside.specs.Memory.{HeldOutput, is_due, is_full_for, after_call, plan_of};
+ghost use Rattle.eon_outside.specs.Memory.{HeldOutput, IsFilledFirst, standing_of, is_due, is_full_for, after_call, plan_of};
+ghost use Rattle.eon_outside.specs.Sure.{sure_of};
 
 use crate::call_plan::CallPlan;
 use crate::reading::Failed;
@@ -25,7 +26,8 @@ impl Model for MemSink {
 
     ghost view = { λ s. record { given = s.bytes.items; room = s.room; most = s.most; plan = s.plan } };
 
-    ghost invariant = { λ s. (0 < s.most) × (vec_len s.bytes ≤ s.room) × (s.room ≤ vec_capacity s.bytes) };
+    ghost invariant = { λ s. (0 < s.most) × (vec_len s.bytes ≤ s.room) × (s.room ≤ vec_capacity s.bytes)
+        × IsFilledFirst (record { given = s.bytes.items; room = s.room; most = s.most; plan = s.plan }) };
 }
 
 impl MemSink {
@@ -77,12 +79,12 @@ impl MemSink {
 impl Sink for MemSink {
     ghost given = { λ s. Some s.given };
 
-    ghost faults = { λ s. s.plan.faults };
+    ghost standing = { standing_of };
 
     fn write(&mut self, piece: &[u8]) -> Result<usize, Failed>
         ensures bound { TakesSome result piece.now }
         ensures bytes { WriteAppends (Some self.old.given) (Some self.new.given) result piece.now }
-        ensures cause { HasCause self.old.plan.faults self.new.plan.faults result }
+        ensures stands { Stands (standing_of self.old) (standing_of self.new) result }
         ensures when { is_err result ≡ (is_due self.old.plan || is_full_for self.old piece.now) }
         ensures count { IfOk result (λ n. n ≡ min self.old.most (min (length piece.now) (self.old.room - length self.old.given))) }
         ensures plan { self.new.plan ≡ after_call self.old.plan (is_err result) }
@@ -101,4 +103,6 @@ impl Sink for MemSink {
             Err(_) => unreachable!(),
         }
     }
+
+    ghost sure = { sure_of };
 }

@@ -1,8 +1,8 @@
 //! The files of the machine, read by name.
-ghost use Rattle.std.specs.Prelude.{◌≡◌, [], ◌∷◌, ◌++◌, None, is_err, if◌then◌else◌};
+ghost use Rattle.std.specs.Prelude.{◌≡◌, [], ◌∷◌, ◌++◌, None, false};
 ghost use Rattle.std.specs.Io.{ReadsAtMost};
 ghost use Rattle.std.specs.Io.KnownBytes.{ReadConsumes};
-ghost use Rattle.eon_outside.specs.Faults.{HasCause, counted};
+ghost use Rattle.eon_outside.specs.Faults.{Counts};
 ghost use Rattle.eon_outside.specs.Reading.{left_in};
 
 use crate::opened_names::OpenedNames;
@@ -51,10 +51,11 @@ impl<'a, R: Files> Shelf for FileShelf<'a, R> {
 
     ghost faults = { λ s. s.faults };
 
+    ghost calm = { λ _. false };
+
     fn open(&mut self, name: &str) -> Result<(), Failed>
         ensures opened { self.new.opened.names ≡ self.old.opened.names ++ name.now ∷ [] }
-        ensures cause { HasCause self.old.faults self.new.faults result }
-        ensures counts { self.new.faults ≡ (if is_err result then counted self.old.faults else self.old.faults) }
+        ensures counts { Counts self.old.faults self.new.faults result }
     {
         self.opened.note(name.as_bytes());
         self.file = None;
@@ -74,8 +75,7 @@ impl<'a, R: Files> Shelf for FileShelf<'a, R> {
         ensures bound { ReadsAtMost result buf.new }
         ensures reads { ReadConsumes (left_in R.File.remaining self.old.file) (left_in R.File.remaining self.new.file) result buf.new }
         ensures opened { self.new.opened.names ≡ self.old.opened.names }
-        ensures cause { HasCause self.old.faults self.new.faults result }
-        ensures counts { self.new.faults ≡ (if is_err result then counted self.old.faults else self.old.faults) }
+        ensures counts { Counts self.old.faults self.new.faults result }
     {
         let Some(file) = &mut self.file else {
             return Ok(0);

@@ -1,6 +1,6 @@
 //! Standard output.
-ghost use Rattle.std.specs.Prelude.{◌≡◌, ℕ, None, is_err, if◌then◌else◌};
-ghost use Rattle.eon_outside.specs.Faults.{HasCause, counted};
+ghost use Rattle.std.specs.Prelude.{◌≡◌, None, []};
+ghost use Rattle.eon_outside.specs.Faults.{Counts};
 ghost use Rattle.eon_outside.specs.Writing.{TakesSome};
 
 use crate::reading::Failed;
@@ -34,12 +34,11 @@ impl<'a, R: Print> StdoutSink<'a, R> {
 impl<'a, R: Print> Sink for StdoutSink<'a, R> {
     ghost given = { λ _. None };
 
-    ghost faults = { λ s. s.faults };
+    ghost standing = { λ s. record { faults = s.faults; room = None; through = [] } };
 
     fn write(&mut self, piece: &[u8]) -> Result<usize, Failed>
         ensures bound { TakesSome result piece.now }
-        ensures cause { HasCause self.old.faults self.new.faults result }
-        ensures counts { self.new.faults ≡ (if is_err result then counted self.old.faults else self.old.faults) }
+        ensures counts { Counts self.old.faults self.new.faults result }
     {
         match self.rt.write_some(piece) {
             Ok(0) | Err(_) => {
@@ -49,4 +48,6 @@ impl<'a, R: Print> Sink for StdoutSink<'a, R> {
             Ok(count) => Ok(count),
         }
     }
+
+    ghost sure = { λ _. tt };
 }

@@ -1,8 +1,8 @@
 //! Files that are read to their end, within a limit.
-ghost use Rattle.std.specs.Prelude.{◌≡◌, ◌≢◌, ◌<◌, ◌≤◌, [], ◌∷◌, ◌++◌, length, vec_len, IfSome};
+ghost use Rattle.std.specs.Prelude.{◌≡◌, ◌≢◌, ◌<◌, ◌≤◌, [], ◌∷◌, ◌++◌, length, vec_len, IfSome, IsTrue};
 ghost use Rattle.std.specs.Io.KnownBytes.{Consumes, IsAtEnd};
-ghost use Rattle.eon_outside.specs.Faults.{Rose};
-ghost use Rattle.eon_outside.specs.WholeFile.{IsFile, IsThere, IsLonger};
+ghost use Rattle.eon_outside.specs.Reading.{IsThere};
+ghost use Rattle.eon_outside.specs.WholeFile.{IsFile, IsLonger, CountsFailed, NotFailed};
 
 use crate::reading::Shelf;
 
@@ -40,9 +40,9 @@ pub fn read_up_to<H: Shelf>(
     ensures long { result ≡ Ok ReadEnd.Long → IsLonger (H.files shelf.old) name.now limit }
     ensures empty { result ≢ Ok ReadEnd.Whole → room.new.items ≡ [] }
     ensures at_end { result ≡ Ok ReadEnd.Whole → IsAtEnd (H.left shelf.new) }
-    ensures failed { result ≡ Err ReadFault.Failed → Rose (H.faults shelf.old) (H.faults shelf.new) }
+    ensures counts { CountsFailed (H.faults shelf.old) (H.faults shelf.new) result }
     ensures memory { result ≡ Err ReadFault.Memory → IsThere (H.files shelf.old) name.now }
-    ensures later { H.faults shelf.old ≤ H.faults shelf.new }
+    ensures calm { IsTrue (H.calm shelf.old) → IsTrue (H.calm shelf.new) × (IsThere (H.files shelf.old) name.now → NotFailed result) }
     ensures files { H.files shelf.new ≡ H.files shelf.old }
     ensures opened { H.opened shelf.new ≡ H.opened shelf.old ++ name.now ∷ [] }
 {
@@ -70,8 +70,8 @@ fn read_rest<H: Shelf>(
     ensures within { vec_len room.new ≤ limit }
     ensures long { result ≡ Ok ReadEnd.Long → IfSome (H.left shelf.old) (λ bytes. limit < length bytes) }
     ensures at_end { result ≡ Ok ReadEnd.Whole → IsAtEnd (H.left shelf.new) }
-    ensures failed { result ≡ Err ReadFault.Failed → Rose (H.faults shelf.old) (H.faults shelf.new) }
-    ensures later { H.faults shelf.old ≤ H.faults shelf.new }
+    ensures counts { CountsFailed (H.faults shelf.old) (H.faults shelf.new) result }
+    ensures calm { IsTrue (H.calm shelf.old) → IsTrue (H.calm shelf.new) × NotFailed result }
     ensures files { H.files shelf.new ≡ H.files shelf.old }
     ensures opened { H.opened shelf.new ≡ H.opened shelf.old }
 {

@@ -12,5 +12,6 @@ open-tells c = record {
   none_open = none_open c.args.self.now.files c.args.name.now c.new.self.now.left c.result c.ensures.bytes;
   files = ap Some c.ensures.files;
   opened = c.ensures.opened;
-  cause = c.ensures.cause;
+  counts = c.ensures.counts;
+  calm = c.ensures.calm;
 }

@@ -1,6 +1,11 @@
-use Rattle.std.proofs.Common.{refl}
+use Rattle.std.proofs.Common.{refl, false}
+use Rattle.std.specs.Prelude.{IsTrue}
 use Rattle.eon_outside.proofs.Untold.{untold_open, untold_read}
 use Rattle.eon_outside.proofs.real_files.FileShelfShelf.TheImpl.Goals as goal
+
+-- no real shelf is calm
+never : IsTrue false → ⊥
+never h = cc
 
 pub open-tells : goal.open-tells
 open-tells g c = record {
@@ -8,7 +13,8 @@ open-tells g c = record {
   none_open = untold_open c.result;
   files = refl;
   opened = c.ensures.opened;
-  cause = c.ensures.cause;
+  counts = c.ensures.counts;
+  calm = λ calm. absurd (never calm);
 }
 
 pub read-tells : goal.read-tells
@@ -17,5 +23,6 @@ read-tells g c = record {
   bytes = untold_read c.result c.new.buf.now;
   files = refl;
   opened = c.ensures.opened;
-  cause = c.ensures.cause;
+  counts = c.ensures.counts;
+  calm = λ calm. absurd (never calm);
 }

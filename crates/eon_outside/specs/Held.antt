@@ -1,0 +1,13 @@
+-- A sink that holds bytes back for the one below it.
+use Rattle.std.specs.Prelude.{◌≡◌, ℕ, ◌<◌, List, [], ◌∷◌, length, take, drop, Option, Result, Ok, Err}
+use Rattle.std.specs.Io.KnownBytes.{Appends}
+use Rattle.eon_outside.specs.Faults.{Standing}
+
+-- the standing of a sink that gives to another one, through this reference
+abbrev pub standing_over : ℕ → Standing → Standing
+standing_over reference below = record below { through = reference ∷ below.through }
+
+-- What was held was given to the sink below, or only a front of it, and the rest is still held.
+abbrev pub Flushes : {T E : Type 0} → Option (List ℕ) → Option (List ℕ) → List ℕ → List ℕ → Result T E → Type 0
+Flushes old new held left (Ok _) = Appends old new held × (left ≡ [])
+Flushes old new held left (Err _) = (n : ℕ) × (n < length held) × Appends old new (take n held) × (left ≡ drop n held)
