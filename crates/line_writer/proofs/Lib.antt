@@ -1,0 +1,2 @@
+pub mod TakesLaws
+pub mod WordLaws
