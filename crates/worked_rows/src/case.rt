@@ -1,0 +1,105 @@
+//! One case: what is called, and what has to come out.
+use crate::files::{FileFault, file_of};
+use eon_outside::{FileShelf, MemSink};
+use net_file::{print_net, read_net};
+use plan_serve::plan_main;
+use std::alloc::{AllocError, Global};
+
+/// The most bytes that a call may write here.
+const ROOM: usize = 1_048_576;
+
+/// A call, and what it has to come to.
+#[derive(Drop)]
+pub enum Case {
+    /// The planner called with these words ends with the code, and writes what the file of this name holds.
+    Call {
+        code: u8,
+        written: String,
+        words: Vec<String>,
+    },
+    /// The network text of this name is read, and printed back as it stands.
+    PrintedBack { name: String },
+}
+
+/// What came out of a case.
+#[derive(Drop)]
+pub enum Outcome {
+    /// What is stored.
+    AsStored,
+    /// Something else: this code, and these bytes.
+    Other { code: u8, written: Vec<u8> },
+}
+
+/// The words of a line.
+fn words_of(alloc: Global, line: &str) -> Result<Vec<String>, AllocError> {
+    let mut words = Vec::new(alloc);
+    for word in line.split_whitespace() {
+        words.push(String::from_str(alloc, word)?)?;
+    }
+    Ok(words)
+}
+
+impl Case {
+    /// Reads a line: `back FILE`, or `CODE FILE` and the words of a call.
+    pub fn read(alloc: Global, line: &str) -> Result<Case, FileFault> {
+        let Some((first, rest)) = line.split_once(' ') else {
+            return Err(FileFault::Text);
+        };
+        if first == "back" {
+            let name = String::from_str(alloc, rest)?;
+            return Ok(Case::PrintedBack { name });
+        }
+        let Ok(code) = first.parse::<u8>() else {
+            return Err(FileFault::Text);
+        };
+        let (written, words) = rest.split_once(' ').unwrap_or((rest, ""));
+        Ok(Case::Call {
+            code,
+            written: String::from_str(alloc, written)?,
+            words: words_of(alloc, words)?,
+        })
+    }
+}
+
+/// What the call came to.
+fn called(rt: &HostRuntime, words: &[String]) -> Result<(u8, Vec<u8>), AllocError> {
+    let alloc = rt.alloc();
+    let mut shelf = FileShelf::new(rt);
+    let mut out = MemSink::new(alloc, ROOM, ROOM, Vec::new(alloc))?;
+    let status = plan_main(alloc, words, &mut shelf, &mut out);
+    Ok((status.code(), out.given().to_vec(alloc)?))
+}
+
+/// The network text as it is printed; nothing where it is refused.
+fn printed(alloc: Global, text: &[u8]) -> Result<Vec<u8>, AllocError> {
+    let mut out = Vec::new(alloc);
+    if text.len() <= 1_048_576 && let Ok(setup) = read_net(alloc, text) {
+        print_net(&setup, &mut out)?;
+    }
+    Ok(out)
+}
+
+/// Tries the case.
+pub fn outcome_of(rt: &HostRuntime, case: &Case) -> Result<Outcome, FileFault> {
+    let (wanted, stored, code, written) = match case {
+        Case::Call {
+            code,
+            written,
+            words,
+        } => {
+            let stored = file_of(rt, written.as_str())?;
+            let (ended, given) = called(rt, words.as_slice())?;
+            (*code, stored, ended, given)
+        }
+        Case::PrintedBack { name } => {
+            let stored = file_of(rt, name.as_str())?;
+            let given = printed(rt.alloc(), stored.as_slice())?;
+            (0, stored, 0, given)
+        }
+    };
+    if wanted == code && stored.as_slice() == written.as_slice() {
+        Ok(Outcome::AsStored)
+    } else {
+        Ok(Outcome::Other { code, written })
+    }
+}
