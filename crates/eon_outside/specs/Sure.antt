@@ -1,23 +1,29 @@
 -- Sinks that are sure of their room: where there was a fault, as much was given.
-use Rattle.std.specs.Prelude.{◌≡◌, ℕ, ◌<◌, ◌≤◌, ◌==◌, Bool, true, false, List, [], ◌∷◌, length, Option, None, Some, IfSome, nat_le, if◌then◌else◌}
+use Rattle.std.specs.Prelude.{◌≡◌, ℕ, ◌<◌, ◌≤◌, ◌==◌, Bool, true, false, List, [], ◌∷◌, ◌++◌, length, take, bytes_eq, Option, None, Some, IfSome, nat_le, if◌then◌else◌}
 use Rattle.std.proofs.Common.{arith, eqb-true, leb-true, refl}
 use Rattle.std.proofs.lemmas.List.{length-append}
-use Rattle.std.specs.Io.KnownBytes.{append_known}
 use Rattle.eon_outside.specs.Faults.{Standing, IsSure}
-use Rattle.eon_outside.specs.Held.{standing_over}
+use Rattle.eon_outside.specs.Held.{standing_over, given_since}
 use Rattle.eon_outside.specs.Memory.{HeldOutput, is_calm, standing_of}
 
-sure_with : (room : Option ℕ) (faults : ℕ) (given : Option (List ℕ)) (held : List ℕ)
+sure_with : (room : Option ℕ) (faults : ℕ) (start given : Option (List ℕ)) (held : List ℕ)
     → IfSome room (λ room. 0 < faults → IfSome given (λ bytes. room ≤ length bytes))
-    → IfSome room (λ room. 0 < faults → IfSome (append_known given held) (λ bytes. room ≤ length bytes))
-sure_with None faults given held h = tt
-sure_with (Some room) faults None held h = λ f. tt
-sure_with (Some room) faults (Some bytes) held h = λ f. omega (arith, h f, length-append bytes held)
+    → IfSome room (λ room. 0 < faults → IfSome (given_since start given held) (λ bytes. room ≤ length bytes))
+sure_with None faults start given held h = tt
+sure_with (Some room) faults None given held h = λ f. tt
+sure_with (Some room) faults (Some start) None held h = λ f. tt
+sure_with (Some room) faults (Some start) (Some bytes) held h =
+    λ f. one (bytes_eq (take (length start) bytes) start) (h f)
+  where
+    one : (b : Bool) → room ≤ length bytes
+        → IfSome (if b then Some (bytes ++ held) else None) (λ bytes. room ≤ length bytes)
+    one true l = omega (arith, l, length-append bytes held)
+    one false l = tt
 
 -- what is held makes a sink no less sure
-pub sure_over : (reference : ℕ) (below : Standing) (given : Option (List ℕ)) (held : List ℕ) → IsSure below given
-    → IsSure (standing_over reference below) (append_known given held)
-sure_over reference below given held h = sure_with below.room below.faults given held h
+pub sure_over : (reference : ℕ) (below : Standing) (start given : Option (List ℕ)) (held : List ℕ)
+    → IsSure below given → IsSure (standing_over reference below) (given_since start given held)
+sure_over reference below start given held h = sure_with below.room below.faults start given held h
 
 abbrev Sure : ℕ → List ℕ → Option ℕ → Type 0
 Sure faults given room = IfSome room (λ room. 0 < faults → room ≤ length given)

@@ -1,30 +1,47 @@
 //! A sink that holds bytes back.
-ghost use Rattle.std.specs.Prelude.{◌≡◌, ◌<◌, ◌≤◌, ◌++◌, [], true, false, length, drop, vec_len};
-ghost use Rattle.std.specs.Io.KnownBytes.{WriteAppends, append_known};
+ghost use Rattle.std.specs.Prelude.{◌≡◌, ◌<◌, ◌≤◌, ◌++◌, ℕ, List, [], Option, None, true, false, length, drop, vec_len};
+ghost use Rattle.std.specs.Io.KnownBytes.{WriteAppends};
 ghost use Rattle.eon_outside.specs.Faults.{Stands};
 ghost use Rattle.eon_outside.specs.Writing.{TakesSome};
-ghost use Rattle.eon_outside.specs.Held.{standing_over, Flushes};
+ghost use Rattle.eon_outside.specs.Held.{standing_over, given_since, Flushes};
 ghost use Rattle.eon_outside.specs.Sure.{sure_over};
 
 use crate::reading::Failed;
 use crate::writing::{Sink, write_front};
+use std::marker::{Brand, PhantomData};
 
-/// A sink above another one, which holds bytes back, so that the one below is given them in large pieces. What it was
-/// given is what the one below took, and what is held.
-#[derive(Drop)]
-pub struct Buffered<'a, K: Sink> {
-    out: &'a mut K,
-    held: Vec<u8>,
+/// What a sink had been given when bytes began to be held back for it. Only contracts see it: whoever calls a function
+/// with this bound passes `Brand`, and says the bytes in its proof.
+pub trait Start {
+    ghost bytes: { Option (List ℕ) };
 }
 
-impl<'a, K: Sink> Buffered<'a, K> {
+impl Start for Brand {
+    ghost bytes = { None };
+}
+
+/// A sink above another one, which holds bytes back, so that the one below is given them in large pieces. What it was
+/// given is what the one below took, and what is held; it tells so where the one below tells what it was given, beginning
+/// with what it had at the start.
+#[derive(Drop)]
+pub struct Buffered<'a, K: Sink, S: Start> {
+    out: &'a mut K,
+    held: Vec<u8>,
+    start: PhantomData<S>,
+}
+
+impl<'a, K: Sink, S: Start> Buffered<'a, K, S> {
     /// Holds back these bytes for this sink, and as many as they have room for.
-    pub fn new(out: &'a mut K, held: Vec<u8>) -> Buffered<'a, K>
+    pub fn new(out: &'a mut K, held: Vec<u8>) -> Buffered<'a, K, S>
         ensures sink { result.out.ghost_name ≡ out.entry.ghost_name }
         ensures same { result.out.now ≡ out.old }
         ensures held { result.held.items ≡ held.items }
     {
-        Buffered { out, held }
+        Buffered {
+            out,
+            held,
+            start: PhantomData,
+        }
     }
 
     /// Gives all that is held to the sink below. What it did not take stays held after a failure.
@@ -48,7 +65,7 @@ impl<'a, K: Sink> Buffered<'a, K> {
     fn write_first(&mut self, piece: &[u8]) -> Result<usize, Failed>
         requires { self.old.held.items ≡ [] }
         ensures bound { TakesSome result piece.now }
-        ensures bytes { WriteAppends (append_known (K.given self.old.out.now) self.old.held.items) (append_known (K.given self.new.out.now) self.new.held.items) result piece.now }
+        ensures bytes { WriteAppends (given_since S.bytes (K.given self.old.out.now) self.old.held.items) (given_since S.bytes (K.given self.new.out.now) self.new.held.items) result piece.now }
         ensures stands { Stands (standing_over self.old.out.ghost_name (K.standing self.old.out.now)) (standing_over self.new.out.ghost_name (K.standing self.new.out.now)) result }
     {
         if hold(&mut self.held, piece) {
@@ -58,8 +75,8 @@ impl<'a, K: Sink> Buffered<'a, K> {
     }
 }
 
-impl<'a, K: Sink> Sink for Buffered<'a, K> {
-    ghost given = { λ b. append_known (K.given b.out.now) b.held.items };
+impl<'a, K: Sink, S: Start> Sink for Buffered<'a, K, S> {
+    ghost given = { λ b. given_since S.bytes (K.given b.out.now) b.held.items };
 
     ghost standing = { λ b. standing_over b.out.ghost_name (K.standing b.out.now) };
 
@@ -73,7 +90,7 @@ impl<'a, K: Sink> Sink for Buffered<'a, K> {
         }
     }
 
-    ghost sure = { λ b. sure_over b.out.ghost_name (K.standing b.out.now) (K.given b.out.now) b.held.items (K.sure b.out.now) };
+    ghost sure = { λ b. sure_over b.out.ghost_name (K.standing b.out.now) S.bytes (K.given b.out.now) b.held.items (K.sure b.out.now) };
 }
 
 // Appends the piece where there is room, and says whether there was. There is for a piece that is empty.

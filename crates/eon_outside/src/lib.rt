@@ -14,7 +14,7 @@ pub mod real_output;
 pub mod whole_file;
 pub mod writing;
 
-pub use buffered::Buffered;
+pub use buffered::{Buffered, Start};
 pub use files_in_memory::MemShelf;
 pub use output_in_memory::MemSink;
 pub use reading::{Failed, Shelf};

@@ -3,6 +3,7 @@ use crate::{
     Buffered, FileShelf, MemSink, ReadEnd, ReadFault, Shelf, StdoutSink, read_up_to, write_all,
 };
 use std::fs;
+use std::marker::Brand;
 use std::test::Fail;
 
 #[test]
@@ -34,16 +35,21 @@ fn standard_output_takes_a_piece(rt: HostRuntime) -> Result<(), Fail> {
     Ok(())
 }
 
+/// Whether the pieces go through, the second of them behind a failure, until the sink is full.
+fn goes_on_behind_a_failure(sink: &mut MemSink, room: Vec<u8>) -> bool {
+    let mut held: Buffered<'_, MemSink, Brand> = Buffered::new(sink, room);
+    let first = write_all(&mut held, b"abc").is_ok() && write_all(&mut held, b"defgh").is_ok();
+    let failed = held.flush().is_err();
+    let second = write_all(&mut held, b"longer than the room").is_ok();
+    first && failed && second && held.flush().is_err()
+}
+
 #[test]
 fn what_was_not_taken_stays_held(rt: HostRuntime) -> Result<(), Fail> {
     let alloc = rt.alloc();
     let mut sink = MemSink::new(alloc, 20, 2, [2].to_vec(alloc)?)?;
-    let mut held = Buffered::new(&mut sink, Vec::with_capacity(alloc, 8)?);
-    assert!(rt; write_all(&mut held, b"abc").is_ok());
-    assert!(rt; write_all(&mut held, b"defgh").is_ok());
-    assert!(rt; held.flush().is_err(), "the second call fails");
-    assert!(rt; write_all(&mut held, b"longer than the room").is_ok());
-    assert!(rt; held.flush().is_err(), "20 bytes are full");
+    let room = Vec::with_capacity(alloc, 8)?;
+    assert!(rt; goes_on_behind_a_failure(&mut sink, room));
     assert_eq!(rt; sink.given(), b"abcdefghlonger than ".as_slice());
     Ok(())
 }
