@@ -2,10 +2,11 @@
 use Rattle.std.proofs.Common.{◌≡◌, refl, sym, ◌∙◌, ap, ℕ, zero, suc, ◌≤◌, arith, Bool, true, false, cond, not, ◌&&◌, ◌||◌, List, [], ◌∷◌, length, drop, find, slice_get, map, Option, Some, None}
 use Rattle.std.specs.Option.{option_map}
 use Rattle.std.specs.List.{list_all}
+use Rattle.eon_model.specs.declared.Class.{Class}
 use Rattle.eon_model.specs.Names.{Name, same_name}
 use Rattle.eon_model.specs.Route.{share_group}
-use Rattle.eon_model.specs.Services.{Leg, Service, State, legs_of, owned_legs}
-use Rattle.eon_model.specs.Legal.{is_clear, work_is_clear, backups_collide}
+use Rattle.eon_model.specs.Services.{Leg, Service, State, legs_of, owned, owned_legs}
+use Rattle.eon_model.specs.Legal.{is_clear, is_dual, work_is_clear, backups_collide}
 use Rattle.eon_model.specs.Step.{clashes_with}
 use Rattle.eon_model.proofs.NameLaws.{names_equal}
 use Rattle.leg_state.specs.Clashes.{is_clear_apart, clashes_apart, clashes_of, first_clash_of}
@@ -35,51 +36,49 @@ module _ {X : Type 0} (p : X → Bool) where
 
 -- ---- clear, for two services
 
-or_without : (a b d : Bool) → b ≡ false → ((a || b) || d) ≡ (a || d)
-or_without true b d e = refl
-or_without false b d e = λ i. e i || d
+or_without : (a b : Bool) → a ≡ false → (a || b) ≡ b
+or_without a b e = λ i. e i || b
 
 -- between the legs of two names, clear does not ask for the names
-is_clear-apart : (owner name : Name) (p q : Leg) → same_name name owner ≡ false →
-    is_clear (record { owner = owner; leg = p }) (record { owner = name; leg = q }) ≡ is_clear_apart p q
-is_clear-apart owner name p q e =
-    ap (λ b. (work_is_clear p q && work_is_clear q p) && b)
-    (or_without (not (backups_collide p q)) (same_name owner name) (not (share_group p.work.route q.work.route))
+is_clear-apart : (owner name : Name) (class other : Class) (p q : Leg) → same_name name owner ≡ false →
+    is_clear (owned owner class p) (owned name other q) ≡ is_clear_apart class p other q
+is_clear-apart owner name class other p q e =
+    ap (λ b. work_is_clear p q && work_is_clear q p
+    && (not (backups_collide p q) || (not (is_dual class) && not (is_dual other) && b)))
+    (or_without (same_name owner name) (not (share_group p.work.route q.work.route))
     (names_equal.symm owner name ∙ e))
 
-pub clashes-apart : (l : Leg) (owner : Name) (s : Service) → same_name s.name owner ≡ false →
-    clashes_with (record { owner = owner; leg = l }) s ≡ clashes_apart l s
-clashes-apart l owner s e =
-    (λ i. not (e i) && not (list_all (is_clear (record { owner = owner; leg = l })) (owned_legs s)))
-    ∙ ap not (row (legs_of s))
+pub clashes-apart : (class : Class) (l : Leg) (owner : Name) (s : Service) → same_name s.name owner ≡ false →
+    clashes_with (owned owner class l) s ≡ clashes_apart class l s
+clashes-apart class l owner s e =
+    (λ i. not (e i) && not (list_all (is_clear (owned owner class l)) (owned_legs s))) ∙ ap not (row (legs_of s))
   where
     row : (ls : List Leg) →
-        list_all (is_clear (record { owner = owner; leg = l })) (map (λ k. record { owner = s.name; leg = k }) ls)
-        ≡ list_all (is_clear_apart l) ls
+        list_all (is_clear (owned owner class l)) (map (owned s.name s.class) ls)
+        ≡ list_all (is_clear_apart class l s.class) ls
     row [] = refl
-    row (k ∷ ls) = λ i. is_clear-apart owner s.name l k e i && row ls i
+    row (k ∷ ls) = λ i. is_clear-apart owner s.name class s.class l k e i && row ls i
 
-pub clashes-own : (l : Leg) (owner : Name) (s : Service) → same_name s.name owner ≡ true →
-    clashes_with (record { owner = owner; leg = l }) s ≡ false
-clashes-own l owner s e =
-    λ i. not (e i) && not (list_all (is_clear (record { owner = owner; leg = l })) (owned_legs s))
+pub clashes-own : (class : Class) (l : Leg) (owner : Name) (s : Service) → same_name s.name owner ≡ true →
+    clashes_with (owned owner class l) s ≡ false
+clashes-own class l owner s e = λ i. not (e i) && not (list_all (is_clear (owned owner class l)) (owned_legs s))
 
-pub first_clash-find : (state : State) (l : Leg) (owner : Option Name) →
-    first_clash_of state l owner ≡ option_map (λ s. s.name) (find (clashes_of l owner) state)
-first_clash-find state l None = refl
-first_clash-find state l (Some owner) = refl
+pub first_clash-find : (state : State) (class : Class) (l : Leg) (owner : Option Name) →
+    first_clash_of state class l owner ≡ option_map (λ s. s.name) (find (clashes_of class l owner) state)
+first_clash-find state class l None = refl
+first_clash-find state class l (Some owner) = refl
 
-module _ (state : State) (l : Leg) (owner : Option Name) (i : ℕ)
-    (none_before : find (clashes_of l owner) (drop i state) ≡ find (clashes_of l owner) state) where
+module _ (state : State) (class : Class) (l : Leg) (owner : Option Name) (i : ℕ)
+    (none_before : find (clashes_of class l owner) (drop i state) ≡ find (clashes_of class l owner) state) where
   -- where no service before this one clashes, and it does, it is the first
-  pub first_found : (s : Service) → slice_get state i ≡ Some s → clashes_of l owner s ≡ true →
-      first_clash_of state l owner ≡ Some s.name
+  pub first_found : (s : Service) → slice_get state i ≡ Some s → clashes_of class l owner s ≡ true →
+      first_clash_of state class l owner ≡ Some s.name
   first_found s e h =
-      first_clash-find state l owner
-      ∙ ap (option_map (λ (x : Service). x.name)) (sym none_before ∙ find_here (clashes_of l owner) state i s e h)
+      first_clash-find state class l owner
+      ∙ ap (option_map (λ (x : Service). x.name)) (sym none_before ∙ find_here (clashes_of class l owner) state i s e h)
 
   -- where no service clashes, there is no first one
-  pub first_none : length state ≤ i → first_clash_of state l owner ≡ None
+  pub first_none : length state ≤ i → first_clash_of state class l owner ≡ None
   first_none h =
-      first_clash-find state l owner
-      ∙ ap (option_map (λ (x : Service). x.name)) (sym none_before ∙ find_end (clashes_of l owner) state i h)
+      first_clash-find state class l owner
+      ∙ ap (option_map (λ (x : Service). x.name)) (sym none_before ∙ find_end (clashes_of class l owner) state i h)

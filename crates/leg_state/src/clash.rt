@@ -2,21 +2,22 @@
 //!
 //! A working path holds the units where it stands, or all that it drifts over; a backup holds those where
 //! it stands. The legs of two services are clear where no working path of one overlaps a path of the
-//! other on a common fibre, and where their backups overlap only if no one failure takes both of their
-//! working routes down.
+//! other on a common fibre, and where their backups overlap only if neither is always lit and no one failure
+//! takes both of their working routes down.
 
 ghost use Rattle.std.specs.Prelude.{◌≡◌};
 ghost use Rattle.std.specs.Option.{option_copied};
-ghost use Rattle.eon_model.specs.Services.{collides};
+ghost use Rattle.eon_model.specs.Services.{collides, owned};
 ghost use Rattle.eon_model.specs.Legal as legal;
 ghost use Rattle.eon_model.specs.Step.{clashes_with};
-ghost use Rattle.leg_state.specs.Clashes.{is_clear_apart, clashes_apart, clashes_of, first_clash_of};
+ghost use Rattle.leg_state.specs.Clashes.{may_share_apart, is_clear_apart, clashes_apart, clashes_of, first_clash_of};
 
 use crate::holding::{Span, channel_span, path_span, share_fibre};
 use crate::leg::Leg;
 use crate::service::Service;
 use crate::services::Services;
 use eon_base::name::Name;
+use eon_model::Class;
 use net_graph::Route;
 
 // Whether these units of two routes overlap on a common fibre.
@@ -59,63 +60,71 @@ fn backups_collide(p: &Leg, q: &Leg) -> bool
     )
 }
 
+// Whether the backups of the legs of two services may hold the same units.
+fn may_share(class: Class, p: &Leg, other: Class, q: &Leg) -> bool
+    ensures { result ≡ may_share_apart class p.now other q.now }
+{
+    let shares_risk = p.work.route.risk().meets(&q.work.route.risk());
+    !class.dual() && !other.dual() && !shares_risk
+}
+
 // Whether the legs of two services are clear.
-fn are_clear(p: &Leg, q: &Leg) -> bool
-    ensures { result ≡ is_clear_apart p.now q.now }
+fn are_clear(class: Class, p: &Leg, other: Class, q: &Leg) -> bool
+    ensures { result ≡ is_clear_apart class p.now other q.now }
 {
     if !work_is_clear(p, q) || !work_is_clear(q, p) {
         return false;
     }
-    if !backups_collide(p, q) {
-        return true;
-    }
-    let work = &p.work;
-    let other = &q.work;
-    !work.route.risk().meets(&other.route.risk())
+    !backups_collide(p, q) || may_share(class, p, other, q)
 }
 
 // Whether some leg of the service is not clear with this leg of another one.
-fn disturbs(leg: &Leg, service: &Service) -> bool
-    ensures { result ≡ clashes_apart leg.now service.now }
+fn disturbs(class: Class, leg: &Leg, service: &Service) -> bool
+    ensures { result ≡ clashes_apart class leg.now service.now }
 {
-    if !are_clear(leg, &service.leg) {
+    if !are_clear(class, leg, service.class, &service.leg) {
         return true;
     }
     match &service.next {
-        Some(next) => !are_clear(leg, next),
+        Some(next) => !are_clear(class, leg, service.class, next),
         None => false,
     }
 }
 
 // Whether the service is not the owner of the leg, and clashes with it.
-fn disturbs_other(leg: &Leg, owner: &Name, service: &Service) -> bool
-    ensures { result ≡ clashes_with (record { owner = owner.now; leg = leg.now }) service.now }
+fn disturbs_other(class: Class, leg: &Leg, owner: &Name, service: &Service) -> bool
+    ensures { result ≡ clashes_with (owned owner.now class leg.now) service.now }
 {
     if service.is_named(owner) {
         return false;
     }
-    disturbs(leg, service)
+    disturbs(class, leg, service)
 }
 
 // Whether the service clashes with the leg, of this owner or of no one.
-fn clashes(leg: &Leg, owner: Option<&Name>, service: &Service) -> bool
-    ensures { result ≡ clashes_of leg.now (option_copied owner.entry) service.now }
+fn clashes(class: Class, leg: &Leg, owner: Option<&Name>, service: &Service) -> bool
+    ensures { result ≡ clashes_of class leg.now (option_copied owner.entry) service.now }
 {
     match owner {
-        Some(name) => disturbs_other(leg, name, service),
-        None => disturbs(leg, service),
+        Some(name) => disturbs_other(class, leg, name, service),
+        None => disturbs(class, leg, service),
     }
 }
 
 /// The name of the first service in order of admission, other than the owner of the leg, one of whose
-/// legs is not clear with this leg; None exactly where all are. Without an owner the leg is of no service of
-/// the list. It takes no memory.
-pub fn first_clash(services: &Services, leg: &Leg, owner: Option<&Name>) -> Option<Name>
-    ensures { result ≡ first_clash_of services.now.list leg.now (option_copied owner.entry) }
+/// legs is not clear with this leg of a service of this class; None exactly where all are. Without an owner
+/// the leg is of no service of the list. It takes no memory.
+pub fn first_clash(
+    services: &Services,
+    class: Class,
+    leg: &Leg,
+    owner: Option<&Name>,
+) -> Option<Name>
+    ensures { result ≡ first_clash_of services.now.list class leg.now (option_copied owner.entry) }
 {
     for i in 0..services.len() {
         let service = services.at(i);
-        if clashes(leg, owner, service) {
+        if clashes(class, leg, owner, service) {
             return Some(service.name);
         }
     }

@@ -5,13 +5,9 @@
 
 pub mod clash;
 pub mod fibre_numbers;
-#[cfg(test)]
-mod fixtures;
 pub mod holding;
 pub mod laws;
 pub mod leg;
-#[cfg(test)]
-mod move_tests;
 pub mod pair;
 pub mod service;
 pub mod services;

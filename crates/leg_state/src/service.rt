@@ -22,7 +22,7 @@ pub struct Service {
     pub dst: u8,
     /// Its rate in Gbit/s.
     pub rate: u32,
-    /// Whether it is protected by a backup.
+    /// Whether it has a backup, and whether the backup is dark until it is needed or always lit.
     pub class: Class,
     /// What carries it; the old leg while it is making.
     pub leg: Leg,

@@ -11,7 +11,7 @@ use std::marker::Model;
 pub struct NetSetup {
     /// Its nodes, fibres and named groups.
     pub net: Net,
-    /// The units of 6.25 GHz that may be lit, the same on each fibre.
+    /// The units of 6.25 GHz that may be lit, in one to eight parts, the same on each fibre.
     pub band: Band,
     /// The formats by reach, and the guard beside each slot.
     pub table: Table,

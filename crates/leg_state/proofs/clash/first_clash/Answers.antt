@@ -7,19 +7,19 @@ use Rattle.leg_state.proofs.clash.first_clash.Goals as goal
 pub returns-then-clashes : goal.returns-then-clashes
 returns-then-clashes c =
     (λ i. Some (c.service.view_is i).name)
-    ∙ sym (first_found c.args.services.now.list c.args.leg.now (option_copied c.args.owner) c.loop-i.i
+    ∙ sym (first_found c.args.services.now.list c.args.class c.args.leg.now (option_copied c.args.owner) c.loop-i.i
     c.loop-i.invariant c.at-service.result.now c.at-service.ensures.service
     (sym c.clashes.ensures ∙ c.if-clashes.true))
 
 pub loop-i-preserved : goal.loop-i-preserved
 loop-i-preserved c =
     rw (add-one c.loop-i.i)
-    (sym (find_past (clashes_of c.args.leg.now (option_copied c.args.owner)) c.args.services.now.list c.loop-i.i
+    (sym (find_past (clashes_of c.args.class c.args.leg.now (option_copied c.args.owner)) c.args.services.now.list c.loop-i.i
     c.at-service.result.now c.at-service.ensures.service (sym c.clashes.ensures ∙ c.if-clashes.false))
     ∙ c.loop-i.invariant)
 
 pub returns : goal.returns
 returns c =
     let past : length c.args.services.now.list ≤ c.loop-i.i = omega arith in
-    sym (first_none c.args.services.now.list c.args.leg.now (option_copied c.args.owner) c.loop-i.i
+    sym (first_none c.args.services.now.list c.args.class c.args.leg.now (option_copied c.args.owner) c.loop-i.i
     c.loop-i.invariant past)
