@@ -3,7 +3,7 @@ use Rattle.std.proofs.Common.{◌≡◌, refl, sym, ◌∙◌, ap, subst, ℕ, �
 use Rattle.std.proofs.Math.Seq.{take-append-add, take-append_seam}
 use Rattle.std.proofs.lemmas.List.{append-nil, length-append, take-append-le}
 use Rattle.std.specs.Io.KnownBytes.{Appends}
-use Rattle.eon_outside.specs.Faults.{Rose, HasCause}
+use Rattle.eon_outside.specs.Faults.{with_fault, Stands}
 use Rattle.eon_outside.specs.Writing.{AppendsPart}
 use Rattle.eon_outside.proofs.KnownBytesLaws.{appends_more}
 use Rattle.line_writer.specs.Sent.{Sent, Took, Stopped, Takes, TakesUnless}
@@ -14,7 +14,7 @@ use Rattle.line_writer.specs.Sent.{Sent, Took, Stopped, Takes, TakesUnless}
 took-both : (a b c : Sent) (xs ys : List ℕ) → Took a b xs → Took b c ys → Took a c (xs ++ ys)
 took-both a b c xs ys p q = record {
   given = appends_more a.given b.given c.given xs ys p.given q.given;
-  later = let l = p.later in let m = q.later in omega arith;
+  stands = q.stands ∙ p.stands;
 }
 
 part-more : (g h : Option (List ℕ)) (xs ys : List ℕ) → AppendsPart g h xs → AppendsPart g h (xs ++ ys)
@@ -26,17 +26,14 @@ part-more g h xs ys p =
     (n, omega arith, subst (λ (v : List ℕ). Appends g h v) (sym (take-append-le n xs ys m)) p.2)
 
 -- it stays so where nothing is given any more
-stopped-still : (a b c : Sent) (xs ys : List ℕ) → Stopped a b xs → c.given ≡ b.given → c.faults ≡ b.faults →
+stopped-still : (a b c : Sent) (xs ys : List ℕ) → Stopped a b xs → c.given ≡ b.given →
+    c.standing ≡ b.standing →
     Stopped a c (xs ++ ys)
 stopped-still a b c xs ys s e f = record {
   part = subst (λ (v : Option (List ℕ)). AppendsPart a.given v (xs ++ ys)) (sym e)
       (part-more a.given b.given xs ys s.part);
-  later = subst (λ (v : ℕ). a.faults ≤ v) (sym f) s.later;
-  rose = subst (λ (v : ℕ). Rose a.faults v) (sym f) s.rose;
+  stands = f ∙ s.stands;
 }
-
-rose-since : (a b c : ℕ) → a ≤ b → Rose b c → Rose a c
-rose-since a b c l r = omega arith
 
 part-after : (g h i : Option (List ℕ)) (xs ys : List ℕ) → Appends g h xs → AppendsPart h i ys → AppendsPart g i (xs ++ ys)
 part-after g h i xs ys p q =
@@ -52,8 +49,7 @@ part-after g h i xs ys p q =
 took-stopped : (a b c : Sent) (xs ys : List ℕ) → Took a b xs → Stopped b c ys → Stopped a c (xs ++ ys)
 took-stopped a b c xs ys p s = record {
   part = part-after a.given b.given c.given xs ys p.given s.part;
-  later = let l = p.later in let m = s.later in omega arith;
-  rose = rose-since a.faults b.faults c.faults p.later s.rose;
+  stands = s.stands ∙ ap with_fault p.stands;
 }
 
 takes-unless : (s t u : Bool) (a b c : Sent) (xs ys : List ℕ) → TakesUnless s t a b xs → TakesUnless t u b c ys →
@@ -84,7 +80,7 @@ grows-none (Some bs) = sym (append-nil bs)
 
 none-unless : (s : Bool) (a : Sent) → TakesUnless s s a a []
 none-unless true a = (refl, refl)
-none-unless false a = record { given = grows-none a.given; later = omega arith }
+none-unless false a = record { given = grows-none a.given; stands = refl }
 
 -- nothing
 pub takes-none : (a : Sent) → Takes a a []
@@ -142,10 +138,10 @@ sink-stopped false a b text p h = absurd cc
 -- From what a text for a sink took, and from its end: all of it was given, or a proper front, as a call failed.
 pub sink-ends : {X E : Type 0} (r : Result X E) (a b : Sent) (text : List ℕ) → a.stopped ≡ false → Takes a b text →
     OnOk r (b.stopped ≡ false) → OnErr r (b.stopped ≡ true) →
-    OnOk r (Appends a.given b.given text) × OnErr r (AppendsPart a.given b.given text) × HasCause a.faults b.faults r
+    OnOk r (Appends a.given b.given text) × OnErr r (AppendsPart a.given b.given text) × Stands a.standing b.standing r
 sink-ends (Ok x) a b text g p whole stopped =
     let q = sink-whole b.stopped a b text (subst (λ (v : Bool). TakesUnless v b.stopped a b text) g p.taken) whole in
-    (q.given, tt, record { later = q.later; failed = tt })
+    (q.given, tt, q.stands)
 sink-ends (Err x) a b text g p whole stopped =
     let q = sink-stopped b.stopped a b text (subst (λ (v : Bool). TakesUnless v b.stopped a b text) g p.taken) stopped in
-    (tt, q.part, record { later = q.later; failed = q.rose })
+    (tt, q.part, q.stands)

@@ -1,6 +1,6 @@
 //! A text in memory.
-ghost use Rattle.std.specs.Prelude.{◌≡◌, true, false, Some, length, take, OnOk, OnErr, if◌then◌else◌};
-ghost use Rattle.line_writer.specs.Sent.{Sent, sent_by};
+ghost use Rattle.std.specs.Prelude.{◌≡◌, true, false, Some, length, take, OnOk, OnErr};
+ghost use Rattle.line_writer.specs.Sent.{Sent, sent_by, memory_standing};
 
 use crate::text_sink::TextSink;
 use std::alloc::AllocError;
@@ -18,7 +18,7 @@ pub struct MemoryText<'a> {
 
 impl<'a> TextSink for MemoryText<'a> {
     ghost sent = { λ t.
-        sent_by t.bytes.ghost_name t.begins (Some t.bytes.now.items) (if t.stopped then 1 else 0) t.stopped };
+        sent_by t.bytes.ghost_name t.begins (Some t.bytes.now.items) (memory_standing t.stopped) t.stopped };
 
     fn put(&mut self, bytes: &[u8]) {
         if self.stopped || bytes.is_empty() {

@@ -15,7 +15,7 @@ pub struct SinkText<'a, K: Sink> {
 }
 
 impl<'a, K: Sink> TextSink for SinkText<'a, K> {
-    ghost sent = { λ t. sent_by t.out.ghost_name 0 (K.given t.out.now) (K.faults t.out.now) t.stopped };
+    ghost sent = { λ t. sent_by t.out.ghost_name 0 (K.given t.out.now) (K.standing t.out.now) t.stopped };
 
     fn put(&mut self, bytes: &[u8]) {
         if self.stopped {
