@@ -3,9 +3,9 @@ use Rattle.std.proofs.Common.{◌≡◌, refl, ◌∙◌, ap, subst, ℕ, zero, 
 use Rattle.std.specs.List.{list_all}
 use Rattle.std.specs.Option.{option_and_then, option_map, option_to_list}
 use Rattle.std.proofs.lemmas.Bool.{and_parts, and_from}
-use Rattle.eon_model.specs.Grid.{Units, units_of, lies_in, is_slot}
-use Rattle.eon_model.specs.Names.{Name}
-use Rattle.eon_model.specs.Services.{Path, State}
+use Rattle.eon_model.specs.declared.Class.{Class}
+use Rattle.eon_model.specs.Grid.{Band, units_of, lies_in_band, is_slot}
+use Rattle.eon_model.specs.Services.{Path, Leg, State}
 use Rattle.eon_model.specs.Candidates.{SizedRoute, Candidate}
 use Rattle.eon_model.specs.FirstFit.{Placement, path_at, leg_placed, placements_of, placements_from}
 use Rattle.eon_model.proofs.OrderLaws.{AllOf}
@@ -15,7 +15,7 @@ use Rattle.admission.specs.declared.placing.Found.{Found}
 use Rattle.admission.specs.declared.placing.Admit.TheVariants.{NoRoute, Blocked, Placed}
 use Rattle.admission.specs.FirstClear.{stands_in, is_clear_with, placement_stands, first_clear}
 use Rattle.admission.specs.Told.{found_at, answer_for, placement_at, back_can_be_made, can_be_made, IsPlaceOn}
-use Rattle.admission.proofs.CandidateLaws.{HasBack, on_candidate}
+use Rattle.eon_model.proofs.SuitLaws.{HasBack, on_candidate}
 
 -- ---- the answers
 
@@ -65,7 +65,7 @@ pub record IsAt (rank : ℕ) (cs : List Candidate) (p : Placement) : Type 0 wher
   pub candidate_is : slice_get cs later ≡ Some p.candidate
   pub back : HasBack p.candidate.back p.back_n
 
-placements-at : (band : Units) (rank : ℕ) (cs : List Candidate) →
+placements-at : (band : Band) (rank : ℕ) (cs : List Candidate) →
     AllOf (IsAt rank cs) (placements_from band rank cs)
 placements-at band rank [] = tt
 placements-at band rank (c ∷ cs) =
@@ -88,31 +88,31 @@ in_list [] k c e = cc
 in_list (x ∷ xs) zero c e = omega arith
 in_list (x ∷ xs) (suc k) c e = let more = in_list xs k c e in omega arith
 
-made : (band : Units) (w : SizedRoute) (n : ℤ) (back : Option SizedRoute) (back_n : Option ℤ) → HasBack back back_n →
+made : (band : Band) (w : SizedRoute) (n : ℤ) (back : Option SizedRoute) (back_n : Option ℤ) → HasBack back back_n →
     list_all (λ (p : Path). stands_in band p.slot)
     (path_at w n ∷ option_to_list (option_and_then (λ b. option_map (path_at b) back_n) back)) ≡ true →
     (is_slot (path_at w n).slot && back_can_be_made back back_n) ≡ true
 made band w n None None has h =
-    and_from _ true (and_parts (is_slot (path_at w n).slot) (lies_in band (units_of (path_at w n).slot))
+    and_from _ true (and_parts (is_slot (path_at w n).slot) (lies_in_band band (units_of (path_at w n).slot))
     (and_parts (stands_in band (path_at w n).slot) true h).0).0 refl
 made band w n None (Some z) has h = absurd has
 made band w n (Some b) None has h = absurd has
 made band w n (Some b) (Some z) has h =
     let parts = and_parts (stands_in band (path_at w n).slot) (stands_in band (path_at b z).slot && true) h in
     let back = and_parts (stands_in band (path_at b z).slot) true parts.1 in
-    and_from _ _ (and_parts (is_slot (path_at w n).slot) (lies_in band (units_of (path_at w n).slot)) parts.0).0
-    (and_parts (is_slot (path_at b z).slot) (lies_in band (units_of (path_at b z).slot)) back.0).0
+    and_from _ _ (and_parts (is_slot (path_at w n).slot) (lies_in_band band (units_of (path_at w n).slot)) parts.0).0
+    (and_parts (is_slot (path_at b z).slot) (lies_in_band band (units_of (path_at b z).slot)) back.0).0
 
-module _ (list : State) (band : Units) (owner : Option Name) (cs : List Candidate) where
-  place_of : (p : Placement) → first_clear list band cs owner ≡ Some p →
-      IsPlaceOn (first_clear list band cs owner) cs (found_at p)
+module _ (list : State) (band : Band) (class : Class) (own : Option Leg) (cs : List Candidate) where
+  place_of : (p : Placement) → first_clear list band class cs own ≡ Some p →
+      IsPlaceOn (first_clear list band class cs own) cs (found_at p)
   place_of p e =
-      let at = find-all (IsAt 0 cs) (placement_stands list band owner) (placements_from band 0 cs) p
+      let at = find-all (IsAt 0 cs) (placement_stands list band class own) (placements_from band 0 cs) p
       (placements-at band 0 cs) e in
-      let stands = find-passes (placement_stands list band owner) (placements_from band 0 cs) p e in
+      let stands = find-passes (placement_stands list band class own) (placements_from band 0 cs) p e in
       let slots = and_parts (list_all (λ (q : Path). stands_in band q.slot)
       ((leg_placed p).work ∷ option_to_list (leg_placed p).back))
-      (list_all (is_clear_with owner (leg_placed p)) list) stands in
+      (list_all (is_clear_with class own (leg_placed p)) list) stands in
       let r = at.rank_is in
       let k = at.later in
       let rank : p.rank ≡ k = omega arith in
@@ -126,8 +126,8 @@ module _ (list : State) (band : Units) (owner : Option Name) (cs : List Candidat
             (made band p.candidate.work p.work_n p.candidate.back p.back_n at.back slots.0);
       }
 
-  pub place-told : (f : Found) → Placed f ≡ answer_for (length cs) (first_clear list band cs owner) →
-      IsPlaceOn (first_clear list band cs owner) cs f
+  pub place-told : (f : Found) → Placed f ≡ answer_for (length cs) (first_clear list band class cs own) →
+      IsPlaceOn (first_clear list band class cs own) cs f
   place-told f e =
-      let told = placed-told (length cs) f (first_clear list band cs owner) e in
-      subst (IsPlaceOn (first_clear list band cs owner) cs) told.is (place_of told.place told.is_first)
+      let told = placed-told (length cs) f (first_clear list band class cs own) e in
+      subst (IsPlaceOn (first_clear list band class cs own) cs) told.is (place_of told.place told.is_first)

@@ -4,26 +4,25 @@ use Rattle.std.specs.Prelude.{nat_abs, int_le}
 use Rattle.std.specs.Int.{int_max, int_min}
 use Rattle.std.proofs.lemmas.Int.{ints, clamps}
 use Rattle.std.proofs.lemmas.Bool.{and_parts, and_from, or_parts, or_from, leb-true, ltb-true, le-leb, lt-ltb, not-true, not_from_false, both_ways, false_from_ne_true}
-use Rattle.eon_model.specs.Grid.{Units, has_unit, overlaps, lies_in, unit_count, is_band}
+use Rattle.eon_model.specs.Grid.{Units, Band, has_unit, overlaps, lies_in, lies_in_band, span_of, unit_count, is_band}
 use Rattle.eon_model.proofs.GridLaws.{int_le-le, le-int_le, lies_in-facts, overlaps-facts, common-overlaps}
 use Rattle.eon_model.proofs.SetLists.{same_test}
-use Rattle.flex_grid.proofs.GridFacts.{units-facts, band-units}
-use Rattle.admission.proofs.FitLaws.{band-facts}
+use Rattle.admission.proofs.SpanLaws.{span-facts}
 use Rattle.admission.specs.declared.row.Row.{Row}
 use Rattle.admission.specs.Free.{is_taken, are_free, are_within, IsFreeWhere, Takes}
 use Rattle.admission.proofs.UnitLemmas.{all-at, all-from}
 
 -- ---- units of a row
 
-pub record Within (band s : Units) : Type 0 where
-  pub low : band.lo ≤ℤ s.lo
+pub record Within (span s : Units) : Type 0 where
+  pub low : span.lo ≤ℤ s.lo
   pub order : s.lo ≤ℤ s.hi
-  pub high : s.hi ≤ℤ band.hi
+  pub high : s.hi ≤ℤ span.hi
 
-pub within-facts : (band s : Units) → are_within band s ≡ true → Within band s
+pub within-facts : (band : Band) (s : Units) → are_within band s ≡ true → Within (span_of band) s
 within-facts band s h =
-    let parts = and_parts (int_le s.lo s.hi) (lies_in band s) h in
-    let ends = lies_in-facts band s parts.1 in
+    let parts = and_parts (int_le s.lo s.hi) (lies_in (span_of band) s) h in
+    let ends = lies_in-facts (span_of band) s parts.1 in
     record { low = ends.0; order = int_le-le s.lo s.hi parts.0; high = ends.1 }
 
 pub free-at : (row : Row) (s : Units) → are_free row s ≡ true → (u : ℤ) → s.lo ≤ℤ u → u ≤ℤ s.hi →
@@ -40,12 +39,10 @@ free-from row s some h =
     below : (u : ℤ) → u <ℤ (s.lo +ℤ pos (unit_count s)) → u ≤ℤ s.hi
     below u q = omega (arith, ints)
 
--- nothing is taken
-pub free_none : (row : Row) (n : ℕ) → row.taken ≡ replicate n false → IsFreeWhere row row.band (λ s. true)
-free_none row n e = record {
-  of_band = refl;
-  free = λ s h. free-from row s (within-facts row.band s h).order (λ u p q. blank u);
-}
+-- where nothing is taken, all units are free
+pub free_all : (row : Row) (n : ℕ) → row.taken ≡ replicate n false → (s : Units) → are_within row.band s ≡ true →
+    are_free row s ≡ true
+free_all row n e s h = free-from row s (within-facts row.band s h).order (λ u p q. blank u)
   where
     none : (n k : ℕ) → get_or (replicate n false) k false ≡ false
     none zero k = refl
@@ -53,7 +50,7 @@ free_none row n e = record {
     none (suc n) (suc k) = none n k
 
     blank : (u : ℤ) → is_taken row u ≡ false
-    blank u = ap (λ (xs : List Bool). get_or xs (nat_abs (u -ℤ row.band.lo)) false) e ∙ none n _
+    blank u = ap (λ (xs : List Bool). get_or xs (nat_abs (u -ℤ (span_of row.band).lo)) false) e ∙ none n _
 
 -- ---- a span that is taken
 
@@ -61,13 +58,13 @@ has : (s : Units) (u : ℤ) → s.lo ≤ℤ u → u ≤ℤ s.hi → has_unit s u
 has s u p q = and_from _ _ (le-int_le s.lo u p) (le-int_le u s.hi q)
 
 module _ (before after : Row) (span : Units) (some : span.lo ≤ℤ span.hi) (band : after.band ≡ before.band)
-    (marks : (u : ℤ) → before.band.lo ≤ℤ u → u ≤ℤ before.band.hi →
+    (marks : (u : ℤ) → (span_of before.band).lo ≤ℤ u → u ≤ℤ (span_of before.band).hi →
     is_taken after u ≡ (is_taken before u || has_unit span u)) where
-  module _ (s : Units) (w : Within before.band s) where
-    low_in : (u : ℤ) → s.lo ≤ℤ u → before.band.lo ≤ℤ u
+  module _ (s : Units) (w : Within (span_of before.band) s) where
+    low_in : (u : ℤ) → s.lo ≤ℤ u → (span_of before.band).lo ≤ℤ u
     low_in u p = let low = w.low in omega (arith, ints)
 
-    high_in : (u : ℤ) → u ≤ℤ s.hi → u ≤ℤ before.band.hi
+    high_in : (u : ℤ) → u ≤ℤ s.hi → u ≤ℤ (span_of before.band).hi
     high_in u q = let high = w.high in omega (arith, ints)
 
     parts_at : are_free after s ≡ true → (u : ℤ) → s.lo ≤ℤ u → u ≤ℤ s.hi →
@@ -105,13 +102,10 @@ module _ (before after : Row) (span : Units) (some : span.lo ≤ℤ span.hi) (ba
 -- ---- a span, cut to the band
 
 module _ (before : Row) (span : Units) (some : span.lo ≤ℤ span.hi) (valid : is_band before.band ≡ true)
-    (from to : ℤ) (low_end : from ≡ int_max span.lo before.band.lo) (high_end : to ≡ int_min span.hi before.band.hi)
+    (from to : ℤ) (low_end : from ≡ int_max span.lo (span_of before.band).lo) (high_end : to ≡ int_min span.hi (span_of before.band).hi)
   where
     abbrev place_of : ℤ → ℕ
-    place_of u = nat_abs (u -ℤ before.band.lo)
-
-    order : before.band.lo ≤ℤ before.band.hi
-    order = (units-facts before.band (band-units before.band valid)).order
+    place_of u = nat_abs (u -ℤ (span_of before.band).lo)
 
     module _ (taken : List Bool) (first last : ℕ) (is_first : first ≡ place_of from) (is_last : last ≡ place_of to)
         (long : 1024 ≤ length before.taken) (ordered : int_le from to ≡ true)
@@ -120,14 +114,14 @@ module _ (before : Row) (span : Units) (some : span.lo ≤ℤ span.hi) (valid : 
       ends : from ≤ℤ to
       ends = int_le-le from to ordered
 
-      place_in : (u : ℤ) → before.band.lo ≤ℤ u → u ≤ℤ before.band.hi → place_of u < length before.taken
+      place_in : (u : ℤ) → (span_of before.band).lo ≤ℤ u → u ≤ℤ (span_of before.band).hi → place_of u < length before.taken
       place_in u low high =
-          let facts = band-facts before.band valid in
+          let facts = span-facts before.band valid in
           let wide = facts.wide in
           let inside : place_of u < 1024 = omega (arith, ints) in
           omega arith
 
-      into : (u : ℤ) → before.band.lo ≤ℤ u → u ≤ℤ before.band.hi →
+      into : (u : ℤ) → (span_of before.band).lo ≤ℤ u → u ≤ℤ (span_of before.band).hi →
           (leb first (place_of u) && ltb (place_of u) (last + 1)) ≡ true → has_unit span u ≡ true
       into u low high h =
           let parts = and_parts (leb first (place_of u)) (ltb (place_of u) (last + 1)) h in
@@ -138,7 +132,7 @@ module _ (before : Row) (span : Units) (some : span.lo ≤ℤ span.hi) (valid : 
           let at_most : u ≤ℤ to = omega (arith, ints, clamps) in
           has span u (omega (arith, ints, clamps)) (omega (arith, ints, clamps))
 
-      out_of : (u : ℤ) → before.band.lo ≤ℤ u → u ≤ℤ before.band.hi → has_unit span u ≡ true →
+      out_of : (u : ℤ) → (span_of before.band).lo ≤ℤ u → u ≤ℤ (span_of before.band).hi → has_unit span u ≡ true →
           (leb first (place_of u) && ltb (place_of u) (last + 1)) ≡ true
       out_of u low high h =
           let parts = and_parts (int_le span.lo u) (int_le u span.hi) h in
@@ -146,7 +140,7 @@ module _ (before : Row) (span : Units) (some : span.lo ≤ℤ span.hi) (valid : 
           let below = int_le-le u span.hi parts.1 in
           let at_least : from ≤ℤ u = omega (arith, ints, clamps) in
           let at_most : u ≤ℤ to = omega (arith, ints, clamps) in
-          let from_low : before.band.lo ≤ℤ from = omega (arith, ints, clamps) in
+          let from_low : (span_of before.band).lo ≤ℤ from = omega (arith, ints, clamps) in
           and_from _ _ (le-leb first (place_of u) (omega (arith, ints)))
           (lt-ltb (place_of u) (last + 1) (omega (arith, ints)))
 
@@ -165,7 +159,7 @@ module _ (before : Row) (span : Units) (some : span.lo ≤ℤ span.hi) (valid : 
         or_nothing true b e = refl
         or_nothing false b e = sym e
 
-        outside : (u : ℤ) → before.band.lo ≤ℤ u → u ≤ℤ before.band.hi → has_unit span u ≡ true → ⊥
+        outside : (u : ℤ) → (span_of before.band).lo ≤ℤ u → u ≤ℤ (span_of before.band).hi → has_unit span u ≡ true → ⊥
         outside u low high h =
             let parts = and_parts (int_le span.lo u) (int_le u span.hi) h in
             let above = int_le-le span.lo u parts.0 in

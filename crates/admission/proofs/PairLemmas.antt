@@ -4,9 +4,10 @@ use Rattle.std.proofs.Common.{◌≡◌, refl, sym, ◌∙◌, ap, ℕ, zero, su
 use Rattle.std.specs.List.{list_all, flat_map}
 use Rattle.std.specs.Option.{option_map, option_and_then, option_to_list, option_or}
 use Rattle.std.proofs.lemmas.List.Folds.{find-append}
-use Rattle.eon_model.specs.Grid.{Units}
-use Rattle.eon_model.specs.Names.{Name}
-use Rattle.eon_model.specs.Services.{State}
+use Rattle.eon_model.specs.declared.Class.{Class}
+use Rattle.eon_model.specs.Grid.{Band}
+use Rattle.eon_model.specs.Route.{Route}
+use Rattle.eon_model.specs.Services.{Leg, State}
 use Rattle.eon_model.specs.Candidates.{SizedRoute, Candidate}
 use Rattle.eon_model.specs.FirstFit.{Placement, centres_in, path_at, backup_centres, placements_of, placements_from}
 use Rattle.admission.specs.FirstClear.{placement_stands, first_clear}
@@ -72,44 +73,44 @@ module _ {X Y Z : Type 0} (one : X → Bool) (other : Y → Bool) (make : X → 
 
 -- ---- the placements of a candidate
 
-module _ (list : State) (band : Units) (owner : Option Name) where
+module _ (list : State) (band : Band) (class : Class) (own : Option Leg) where
   and_true : (a : Bool) → (a && true) ≡ a
   and_true true = refl
   and_true false = refl
 
-  backs : (c : Candidate) (o : Option SizedRoute) →
-      find (λ n. list_all (back_fits list band owner c.work.route)
+  backs : (work : Route) (o : Option SizedRoute) →
+      find (λ n. list_all (back_fits list band own class work)
       (option_to_list (option_and_then (λ b. option_map (path_at b) n) o))) (backup_centres band o)
-      ≡ back_found list band owner c o
-  backs c None = refl
-  backs c (Some b) =
-      find-map (λ n. list_all (back_fits list band owner c.work.route) (option_to_list (option_map (path_at b) n)))
+      ≡ back_found list band class own work o
+  backs work None = refl
+  backs work (Some b) =
+      find-map (λ n. list_all (back_fits list band own class work) (option_to_list (option_map (path_at b) n)))
       (λ n. Some n) (centres_in band)
-      ∙ ap (option_map (λ n. Some n)) (find-same _ (λ n. back_fits list band owner c.work.route (path_at b n))
-      (λ n. and_true (back_fits list band owner c.work.route (path_at b n))) (centres_in band))
+      ∙ ap (option_map (λ n. Some n)) (find-same _ (λ n. back_fits list band own class work (path_at b n))
+      (λ n. and_true (back_fits list band own class work (path_at b n))) (centres_in band))
 
   find-placements : (rank : ℕ) (c : Candidate) →
-      find (placement_stands list band owner) (placements_of band rank c)
+      find (placement_stands list band class own) (placements_of band rank c)
       ≡ both_found (λ n b. record { candidate = c; rank = rank; work_n = n; back_n = b })
-      (work_found list band c) (back_found list band owner c c.back)
+      (work_found list band c.work) (back_found list band class own c.work.route c.back)
   find-placements rank c =
       find-both (λ n. work_fits list band (path_at c.work n))
-      (λ n. list_all (back_fits list band owner c.work.route)
+      (λ n. list_all (back_fits list band own class c.work.route)
       (option_to_list (option_and_then (λ b. option_map (path_at b) n) c.back)))
-      (λ n b. record { candidate = c; rank = rank; work_n = n; back_n = b }) (placement_stands list band owner)
-      (λ n b. stand_split list band owner (path_at c.work n)
+      (λ n b. record { candidate = c; rank = rank; work_n = n; back_n = b }) (placement_stands list band class own)
+      (λ n b. stand_split list band class own (path_at c.work n)
       (option_and_then (λ r. option_map (path_at r) b) c.back))
       (backup_centres band c.back) (centres_in band)
-      ∙ ap (both_found (λ n b. record { candidate = c; rank = rank; work_n = n; back_n = b }) (work_found list band c))
-      (backs c c.back)
+      ∙ ap (both_found (λ n b. record { candidate = c; rank = rank; work_n = n; back_n = b }) (work_found list band c.work))
+      (backs c.work.route c.back)
 
   -- ---- what is found on one pair
 
   abbrev pub pair_found : ℕ → Candidate → Option Found
-  pair_found rank c = option_map found_at (find (placement_stands list band owner) (placements_of band rank c))
+  pair_found rank c = option_map found_at (find (placement_stands list band class own) (placements_of band rank c))
 
   found_of : (rank : ℕ) (c : Candidate) (n : Option ℤ) (b : Option (Option ℤ)) →
-      work_found list band c ≡ n → back_found list band owner c c.back ≡ b →
+      work_found list band c.work ≡ n → back_found list band class own c.work.route c.back ≡ b →
       both_found (λ n b. record { pair = rank; work_n = n; back_n = b }) n b ≡ pair_found rank c
   found_of rank c n b e f =
       by n b
@@ -124,15 +125,15 @@ module _ (list : State) (band : Units) (owner : Option Name) where
       by (Some n) None = refl
       by (Some n) (Some b) = refl
 
-  pub no_work : (rank : ℕ) (c : Candidate) → work_found list band c ≡ None → None ≡ pair_found rank c
-  no_work rank c e = found_of rank c None (back_found list band owner c c.back) e refl
+  pub no_work : (rank : ℕ) (c : Candidate) → work_found list band c.work ≡ None → None ≡ pair_found rank c
+  no_work rank c e = found_of rank c None (back_found list band class own c.work.route c.back) e refl
 
-  pub no_back : (rank : ℕ) (c : Candidate) (n : ℤ) → work_found list band c ≡ Some n →
-      back_found list band owner c c.back ≡ None → None ≡ pair_found rank c
+  pub no_back : (rank : ℕ) (c : Candidate) (n : ℤ) → work_found list band c.work ≡ Some n →
+      back_found list band class own c.work.route c.back ≡ None → None ≡ pair_found rank c
   no_back rank c n e f = found_of rank c (Some n) None e f
 
-  pub placed_here : (rank : ℕ) (c : Candidate) (n : ℤ) (b : Option ℤ) → work_found list band c ≡ Some n →
-      back_found list band owner c c.back ≡ Some b →
+  pub placed_here : (rank : ℕ) (c : Candidate) (n : ℤ) (b : Option ℤ) → work_found list band c.work ≡ Some n →
+      back_found list band class own c.work.route c.back ≡ Some b →
       Some (record { pair = rank; work_n = n; back_n = b }) ≡ pair_found rank c
   placed_here rank c n b e f = found_of rank c (Some n) (Some b) e f
 
@@ -140,21 +141,21 @@ module _ (list : State) (band : Units) (owner : Option Name) where
 
   -- the first placement on the pairs from this one on
   abbrev pub found_from : ℕ → List Candidate → Option Placement
-  found_from i cs = find (placement_stands list band owner) (placements_from band i (drop i cs))
+  found_from i cs = find (placement_stands list band class own) (placements_from band i (drop i cs))
 
   from_step : (i : ℕ) (cs : List Candidate) (c : Candidate) → drop i cs ≡ c ∷ drop (i + 1) cs →
       found_from i cs
-      ≡ option_or (find (placement_stands list band owner) (placements_of band i c)) (found_from (i + 1) cs)
+      ≡ option_or (find (placement_stands list band class own) (placements_of band i c)) (found_from (i + 1) cs)
   from_step i cs c e =
-      ap (λ ds. find (placement_stands list band owner) (placements_from band i ds)) e
-      ∙ find-append (placement_stands list band owner) (placements_of band i c)
+      ap (λ ds. find (placement_stands list band class own) (placements_from band i ds)) e
+      ∙ find-append (placement_stands list band class own) (placements_of band i c)
       (placements_from band (i + 1) (drop (i + 1) cs))
 
   -- a pair without one is passed over
   pub pair_past : (i : ℕ) (cs : List Candidate) (c : Candidate) → drop i cs ≡ c ∷ drop (i + 1) cs →
       None ≡ pair_found i c → found_from (i + 1) cs ≡ found_from i cs
   pair_past i cs c e h =
-      by (find (placement_stands list band owner) (placements_of band i c)) h ∙ sym (from_step i cs c e)
+      by (find (placement_stands list band class own) (placements_of band i c)) h ∙ sym (from_step i cs c e)
     where
       by : (o : Option Placement) → None ≡ option_map found_at o →
           found_from (i + 1) cs ≡ option_or o (found_from (i + 1) cs)
@@ -167,14 +168,14 @@ module _ (list : State) (band : Units) (owner : Option Name) where
 
   -- the first pair with one has the first of all
   pub pair_here : (i : ℕ) (cs : List Candidate) (c : Candidate) (f : Found) → drop i cs ≡ c ∷ drop (i + 1) cs →
-      i < length cs → Some f ≡ pair_found i c → found_from i cs ≡ first_clear list band cs owner →
-      Placed f ≡ answer_for (length cs) (first_clear list band cs owner)
+      i < length cs → Some f ≡ pair_found i c → found_from i cs ≡ first_clear list band class cs own →
+      Placed f ≡ answer_for (length cs) (first_clear list band class cs own)
   pair_here i cs c f e l h s =
-      by (find (placement_stands list band owner) (placements_of band i c)) h (sym (from_step i cs c e) ∙ s)
+      by (find (placement_stands list band class own) (placements_of band i c)) h (sym (from_step i cs c e) ∙ s)
     where
       by : (o : Option Placement) → Some f ≡ option_map found_at o →
-          option_or o (found_from (i + 1) cs) ≡ first_clear list band cs owner →
-          Placed f ≡ answer_for (length cs) (first_clear list band cs owner)
+          option_or o (found_from (i + 1) cs) ≡ first_clear list band class cs own →
+          Placed f ≡ answer_for (length cs) (first_clear list band class cs own)
       by None k t = cc
       by (Some p) k t =
           let same : f ≡ found_at p = cc in

@@ -1,6 +1,5 @@
 -- What is proved of the first clear placement: it is the first with which the state is legal.
-use Rattle.std.specs.Prelude.{◌≡◌, ℕ, ◌<◌, ◌≤◌, IsTrue, false, [], ◌∷◌, ◌++◌, length, Option, Some, None}
-use Rattle.eon_model.specs.declared.Class.{Class}
+use Rattle.std.specs.Prelude.{◌≡◌, ℕ, ◌<◌, IsTrue, false, [], ◌∷◌, ◌++◌, length, Option, Some, None}
 use Rattle.eon_model.specs.Grid.{is_band}
 use Rattle.eon_model.specs.Names.{Name}
 use Rattle.eon_model.specs.Services.{Service, State, is_moving, service_of}
@@ -8,7 +7,6 @@ use Rattle.eon_model.specs.Legal.{Setup, Legal}
 use Rattle.eon_model.specs.Candidates.{candidates}
 use Rattle.eon_model.specs.FirstFit.{first_placement}
 use Rattle.eon_model.specs.Changes.{change_service, with_next}
-use Rattle.eon_model.specs.NetworkText.{is_setup}
 use Rattle.eon_model.specs.Commands.{Demand}
 use Rattle.eon_model.specs.Step.{node_numbered, new_service}
 use Rattle.admission.specs.FirstClear.{first_clear}
@@ -21,21 +19,15 @@ FirstForNewService =
     → Legal setup state → length state < setup.services → service_of state d.name ≡ None
     → let net = setup.network in
     let pairs = candidates setup (node_numbered net d.src) (node_numbered net d.dst) d.rate d.class avoid in
-    first_clear state setup.band pairs None
+    first_clear state setup.band d.class pairs None
     ≡ first_placement setup pairs (λ l. state ++ new_service net d l ∷ [])
 
--- For a service at rest of a legal state, what is found among its candidates with it as the owner is the first
+-- For a service at rest of a legal state, what is found among its candidates beside its leg is the first
 -- placement with which the state is legal once the service has the new leg beside its own.
 abbrev pub FirstForSecondLeg : Type 0
 FirstForSecondLeg =
     (setup : Setup) (state : State) (name : Name) (s : Service) (avoid : Option ℕ) → IsTrue (is_band setup.band)
     → Legal setup state → service_of state name ≡ Some s → is_moving s ≡ false
     → let pairs = candidates setup s.src s.dst s.rate s.class avoid in
-    first_clear state setup.band pairs (Some name)
+    first_clear state setup.band s.class pairs (Some s.leg)
     ≡ first_placement setup pairs (λ l. change_service name (with_next l) state)
-
--- A demand has at most 256 candidates.
-abbrev pub CandidatesAreFew : Type 0
-CandidatesAreFew =
-    (setup : Setup) (s t rate : ℕ) (class : Class) (avoid : Option ℕ) → IsTrue (is_setup setup)
-    → length (candidates setup s t rate class avoid) ≤ 256

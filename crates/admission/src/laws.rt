@@ -1,18 +1,13 @@
 //! What is proved of first fit.
 
-ghost use Rattle.admission.specs.Laws.{FirstForNewService, FirstForSecondLeg, CandidatesAreFew};
+ghost use Rattle.admission.specs.Laws.{FirstForNewService, FirstForSecondLeg};
 
-/// What `first` finds without an owner is the planner's first placement of a new service.
+/// What `first` finds beside no leg is the planner's first placement of a new service.
 pub fn first_is_of_a_new_service()
     ensures { FirstForNewService }
 {}
 
-/// What `first` finds with an owner is the planner's first placement of its second leg.
+/// What `first` finds beside the leg of a service at rest is the planner's first placement of its second leg.
 pub fn first_is_of_a_second_leg()
     ensures { FirstForSecondLeg }
-{}
-
-/// A demand has at most 256 pairs of routes.
-pub fn candidates_are_few()
-    ensures { CandidatesAreFew }
 {}

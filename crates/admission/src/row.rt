@@ -1,18 +1,18 @@
 //! A row of the units of a band, each taken or free for one path.
 
-ghost use Rattle.std.specs.Prelude.{◌≡◌, ℕ, ◌<◌, ◌≤◌, nat_abs, ◌-ℤ◌, ◌≤ℤ◌, nat_le, nat_lt, true, false, not, ◌&&◌, ◌||◌, length, slice_index_or, find};
-ghost use Rattle.eon_model.specs.Grid.{units_of, unit_count, overlaps};
+ghost use Rattle.std.specs.Prelude.{◌≡◌, ℕ, ◌<◌, ◌≤◌, nat_abs, ◌-ℤ◌, ◌≤ℤ◌, nat_le, nat_lt, true, false, not, ◌&&◌, ◌||◌, length, slice_index_or, find, IsTrue};
+ghost use Rattle.eon_model.specs.Grid.{units_of, unit_count, overlaps, span_of, is_band, lies_in_band};
 ghost use Rattle.eon_model.specs.FirstFit.{centres_in};
-ghost use Rattle.admission.specs.FirstClear.{stands_in};
-ghost use Rattle.admission.specs.Free.{are_free, IsFreeWhere, Takes, IsRunFound};
+ghost use Rattle.admission.specs.Free.{fits_free, IsFreeWhere, Takes, IsRunFound};
 
 use flex_grid::band::Band;
 use leg_state::holding::Span;
 
-/// The greatest number of units of a band.
+/// The greatest number of units from the lowest to the highest of a band.
 const MOST_UNITS: usize = 1024;
 
-// The units of a band, the lowest first, each taken or not for one path.
+// The units from the lowest to the highest of a band, each taken or not for one path. Units between two parts of the
+// band are taken.
 #[derive(Drop)]
 pub(crate) struct Row {
     band: Band,
@@ -44,41 +44,47 @@ fn first_run(taken: &[bool], width: usize) -> Option<usize>
 }
 
 impl Row {
-    // The units of the band, none of them taken.
+    // The units of the band, those of its parts free.
     pub(crate) fn new(band: &Band) -> Row
-        ensures { IsFreeWhere result band.now (λ s. true) }
+        ensures { IsFreeWhere result band.now (lies_in_band band.now) }
     {
-        Row {
+        let mut row = Row {
             band: *band,
             taken: [false; MOST_UNITS],
+        };
+        for i in 1..band.parts() {
+            let low = i32::from(band.part(i - 1).hi()) + 1;
+            let high = i32::from(band.part(i).lo()) - 1;
+            row.take_from(low, high);
         }
+        row
     }
 
-    // The place of a unit of the band.
+    // The place of a unit of the band's span.
     fn place(&self, unit: i32) -> usize
-        requires low { self.now.band.lo ≤ℤ unit }
-        requires high { unit ≤ℤ self.now.band.hi }
-        ensures place { result ≡ nat_abs (unit -ℤ self.now.band.lo) }
+        requires low { (span_of self.now.band).lo ≤ℤ unit }
+        requires high { unit ≤ℤ (span_of self.now.band).hi }
+        ensures place { result ≡ nat_abs (unit -ℤ (span_of self.now.band).lo) }
         ensures few { result < MOST_UNITS }
     {
         (unit - i32::from(self.band.lo())) as usize
     }
 
-    // How many units the band has.
+    // How many units the band's span has.
     fn len(&self) -> usize
-        ensures count { result ≡ unit_count self.now.band }
+        ensures count { result ≡ unit_count (span_of self.now.band) }
         ensures few { result ≤ MOST_UNITS }
     {
         self.place(i32::from(self.band.hi())) + 1
     }
 
-    // Takes all units from one to another, as far as they lie in the band.
-    pub(crate) fn take(&mut self, span: &Span)
-        requires { span.now.lo ≤ℤ span.now.hi }
-        ensures { Takes self.old self.new (λ s. not (overlaps s span.now)) }
+    // Takes all units from low to high, as far as they lie in the band's span.
+    fn take_from(&mut self, low: i32, high: i32)
+        requires { low ≤ℤ high }
+        ensures { Takes self.old self.new (λ s. not (overlaps s (record { lo = low; hi = high }))) }
     {
-        let from = span.lo().max(i32::from(self.band.lo()));
-        let to = span.hi().min(i32::from(self.band.hi()));
+        let from = low.max(i32::from(self.band.lo()));
+        let to = high.min(i32::from(self.band.hi()));
         if from <= to {
             let first = self.place(from);
             let end = self.place(to) + 1;
@@ -86,10 +92,18 @@ impl Row {
         }
     }
 
-    // The least centre at which a slot of this width lies in the band with no unit taken. The units are walked
+    // Takes the units of the span, as far as they lie in that of the band.
+    pub(crate) fn take(&mut self, span: &Span)
+        requires { span.now.lo ≤ℤ span.now.hi }
+        ensures { Takes self.old self.new (λ s. not (overlaps s span.now)) }
+    {
+        self.take_from(span.lo(), span.hi());
+    }
+
+    // The least centre at which a slot of this width lies in the band's span with no unit taken. The units are walked
     // upwards once: where a run of free ones is as long as the slot, the slot ends.
     pub(crate) fn least_centre(&self, m: u16) -> Option<i16>
-        ensures { result ≡ find (λ n. stands_in self.now.band (record { n = n; m = m }) && are_free self.now (units_of (record { n = n; m = m }))) (centres_in self.now.band) }
+        ensures { result ≡ find (λ n. fits_free self.now (record { n = n; m = m })) (centres_in self.now.band) }
     {
         if m == 0 {
             return None;

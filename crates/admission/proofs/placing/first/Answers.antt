@@ -12,7 +12,7 @@ from_here i pairs c h e = rw add-one (drop-cons pairs i c h ∙ ap (λ x. x ∷ 
 
 pub returns-in-Some-clause-answer : goal.returns-in-Some-clause-answer
 returns-in-Some-clause-answer c =
-    pair_here c.args.services.now.list c.args.band (option_copied c.args.owner) c.loop-number.number
+    pair_here c.args.services.now.list c.args.band c.args.class (option_copied c.args.own) c.loop-number.number
     c.args.pairs.now c.index-pairs-number.result c.in-Some.found
     (from_here c.loop-number.number c.args.pairs.now c.index-pairs-number.result c.loop-number-test.true
     c.index-pairs-number.is)
@@ -20,7 +20,7 @@ returns-in-Some-clause-answer c =
 
 pub loop-number-preserved : goal.loop-number-preserved
 loop-number-preserved c =
-    pair_past c.args.services.now.list c.args.band (option_copied c.args.owner) c.loop-number.number
+    pair_past c.args.services.now.list c.args.band c.args.class (option_copied c.args.own) c.loop-number.number
     c.args.pairs.now c.index-pairs-number.result
     (from_here c.loop-number.number c.args.pairs.now c.index-pairs-number.result c.loop-number-test.true
     c.index-pairs-number.is)
@@ -28,5 +28,5 @@ loop-number-preserved c =
 
 pub returns-in-Some-clause-place : goal.returns-in-Some-clause-place
 returns-in-Some-clause-place c =
-    place-told c.args.services.now.list c.args.band (option_copied c.args.owner) c.args.pairs.now c.in-Some.found
+    place-told c.args.services.now.list c.args.band c.args.class (option_copied c.args.own) c.args.pairs.now c.in-Some.found
     (returns-in-Some-clause-answer c)

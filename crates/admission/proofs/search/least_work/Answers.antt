@@ -9,4 +9,4 @@ returns c =
     c.least_centre.ensures
     ∙ least-where c.work_row.result c.args.band.now
     (λ (s : Units). work_is_free c.args.services.now.list (record { route = c.args.route.now; units = s }))
-    c.args.m c.work_row.ensures
+    c.args.m c.parts.ensures.valid c.work_row.ensures

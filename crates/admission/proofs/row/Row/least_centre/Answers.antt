@@ -1,11 +1,10 @@
 use Rattle.std.proofs.Common.{◌≡◌, sym, ◌∙◌, ap, ℕ, ◌*◌, ◌^◌, ◌<◌, ◌≤◌, ℤ, pos, negsuc, ◌+ℤ◌, ◌-ℤ◌, ◌≤ℤ◌, FitsSigned, w16, w32, to_z, of_z, arith, true, length, find, take, Some}
 use Rattle.std.proofs.lemmas.Int.{ints}
-use Rattle.eon_model.specs.Grid.{unit_count, is_band}
+use Rattle.eon_model.specs.Grid.{unit_count, span_of, is_band}
 use Rattle.eon_model.specs.FirstFit.{centres_in}
-use Rattle.flex_grid.proofs.GridFacts.{units-facts, band-units}
 use Rattle.admission.specs.declared.row.Row.{Row}
 use Rattle.admission.specs.Free.{EndsRun, IsFirstRun}
-use Rattle.admission.proofs.FitLaws.{band-facts}
+use Rattle.admission.proofs.SpanLaws.{span-facts}
 use Rattle.admission.proofs.WalkLaws.{has_room, first_centre, no_centre, no_width, centre_of, centre_low, centre_high, place_below}
 use Rattle.admission.proofs.row.Row.least_centre.Goals as goal
 
@@ -19,18 +18,18 @@ returns-in_err-last c =
     let row = c.args.self.now in
     let m = c.args.m in
     let some : 1 ≤ m = omega arith in
-    let runs = take (unit_count row.band) row.taken in
+    let runs = take (unit_count (span_of row.band)) row.taken in
     let none : (i : ℕ) → i < length runs → ¬ EndsRun runs (2 * m) i =
     rw (← c.len.ensures.count, ← c.from.ensures) c.in_err-last.ensures in
-    let few : unit_count row.band ≤ length row.taken =
+    let few : unit_count (span_of row.band) ≤ length row.taken =
     let count = c.len.ensures.count in
     let few = c.len.ensures.few in omega arith in
     c.from_residual.ensures ∙ no_centre row m some c.lo.ensures.valid few none
 
 -- the code's numbers are those of the law
 module _ (row : Row) (m last : ℕ) (some : 1 ≤ m) (valid : is_band row.band ≡ true)
-    (run : IsFirstRun (take (unit_count row.band) row.taken) (2 * m) last)
-    (lo width : ℤ) (at : lo ≡ row.band.lo) (wide : width ≡ pos m) (thin : m < 2 ^ 16) where
+    (run : IsFirstRun (take (unit_count (span_of row.band)) row.taken) (2 * m) last)
+    (lo width : ℤ) (at : lo ≡ (span_of row.band).lo) (wide : width ≡ pos m) (thin : m < 2 ^ 16) where
   abbrev centre : ℤ
   centre = centre_of row m some valid last
 
@@ -42,12 +41,13 @@ module _ (row : Row) (m last : ℕ) (some : 1 ≤ m) (valid : is_band row.band �
   few : last < 1024
   few =
       let below = place_below row m some valid last run in
-      let order = (units-facts row.band (band-units row.band valid)).order in
-      let wide = (band-facts row.band valid).wide in omega (arith, ints)
+      let facts = span-facts row.band valid in
+      let order = facts.order in
+      let wide = facts.wide in omega (arith, ints)
 
   computed-is : (computed ≡ centre) × (negsuc 4095 ≤ℤ centre) × (centre ≤ℤ pos 4095)
   computed-is =
-      let facts = units-facts row.band (band-units row.band valid) in
+      let facts = span-facts row.band valid in
       let above = facts.low in
       let below = facts.high in
       let order = facts.order in
@@ -74,10 +74,10 @@ overflow_cast-result-2 c =
     let last = c.in_ok-last.last in
     let valid = c.lo.ensures.valid in
     let some : 1 ≤ m = omega arith in
-    let runs = take (unit_count row.band) row.taken in
+    let runs = take (unit_count (span_of row.band)) row.taken in
     let run : IsFirstRun runs (2 * m) last =
     rw (← c.len.ensures.count, ← c.from.ensures) c.in_ok-last.ensures in
-    let at : c.from-lo.result ≡ row.band.lo = let value = c.lo.ensures.value in omega (arith, ints) in
+    let at : c.from-lo.result ≡ (span_of row.band).lo = let value = c.lo.ensures.value in omega (arith, ints) in
     fits row m last some valid run c.from-lo.result c.from-2.result at c.from-2.ensures c.ranges.m.fits
 
 pub returns : goal.returns
@@ -87,10 +87,10 @@ returns c =
     let last = c.in_ok-last.last in
     let valid = c.lo.ensures.valid in
     let some : 1 ≤ m = omega arith in
-    let runs = take (unit_count row.band) row.taken in
+    let runs = take (unit_count (span_of row.band)) row.taken in
     let run : IsFirstRun runs (2 * m) last =
     rw (← c.len.ensures.count, ← c.from.ensures) c.in_ok-last.ensures in
-    let at : c.from-lo.result ≡ row.band.lo = let value = c.lo.ensures.value in omega (arith, ints) in
+    let at : c.from-lo.result ≡ (span_of row.band).lo = let value = c.lo.ensures.value in omega (arith, ints) in
     ap (λ z. Some z)
     (kept row m last some valid run c.from-lo.result c.from-2.result at c.from-2.ensures c.ranges.m.fits)
     ∙ first_centre row m some valid last run
