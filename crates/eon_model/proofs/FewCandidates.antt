@@ -1,5 +1,5 @@
 -- There are at most 256 candidates.
-use Rattle.std.proofs.Common.{ℕ, ◌+◌, ◌*◌, ◌≤◌, ◌≡◌, refl, Bool, true, List, [], ◌∷◌, ◌++◌, map, filter, take, length, Option, Some, None, arith, length-append}
+use Rattle.std.proofs.Common.{ℕ, ◌+◌, ◌*◌, ◌≤◌, ◌≡◌, refl, Bool, true, List, [], ◌∷◌, map, filter, take, length, Option, Some, None, arith, length-append}
 use Rattle.std.specs.List.{filter_map, cons_option, flat_map}
 use Rattle.std.proofs.lemmas.List.{length-take}
 use Rattle.eon_model.specs.declared.Class.{Class}
@@ -8,7 +8,7 @@ use Rattle.eon_model.specs.Legal.{Setup}
 use Rattle.eon_model.specs.NetworkText.{is_setup}
 use Rattle.eon_model.specs.Lists.{sort_by}
 use Rattle.eon_model.specs.Routes.{route_cmp, is_open, all_routes, first_routes}
-use Rattle.eon_model.specs.Candidates.{SizedRoute, Candidate, max_reach, sized, routes_within_reach, is_avoided, fails_with, alone, with_backup, backed, candidates_over, candidates}
+use Rattle.eon_model.specs.Candidates.{SizedRoute, max_reach, sized, routes_within_reach, is_avoided, fails_with, alone, with_backup, backed, candidates_over, candidates}
 use Rattle.eon_model.proofs.SetupFacts.{setup-facts}
 
 length_cons : {X : Type 0} (o : Option X) (xs : List X) → length (cons_option o xs) ≤ length xs + 1

@@ -9,10 +9,10 @@ use Rattle.eon_model.specs.Legal.{Setup}
 use Rattle.eon_model.specs.NetworkText.{is_setup}
 use Rattle.eon_model.specs.Events.{Event}
 use Rattle.eon_model.specs.EventText.{room_for}
-use Rattle.eon_model.specs.Replay.{follow, replay_from, replay}
+use Rattle.eon_model.specs.Replay.{follow, replay}
 use Rattle.eon_model.specs.TopLines.{JournalWhy}
 use Rattle.eon_model.specs.Journal.{head, record_text, records_text, written, kept_digest, bound_digest, Stands}
-use Rattle.eon_model.specs.JournalFault.{head_fault, HasRecord, HasRecords, AreRecords, is_record_at, IsKept, IsOfAnother, StandBefore, IsRefusedAt}
+use Rattle.eon_model.specs.JournalFault.{head_fault, HasRecord, HasRecords, AreRecords, is_record_at, IsKept, IsOfAnother, IsRefusedAt}
 use Rattle.eon_model.specs.JournalLaws.{JournalsAreDecided}
 use Rattle.eon_model.proofs.SetupFacts.{setup-facts}
 use Rattle.eon_model.proofs.EventFields.{AreBytes}

@@ -4,7 +4,7 @@ use Rattle.std.specs.List.{list_all}
 use Rattle.std.proofs.lemmas.Bool.{cases_eq}
 use Rattle.eon_model.specs.Events.{Event}
 use Rattle.eon_model.specs.EventText.{is_event}
-use Rattle.eon_model.specs.Journal.{record_body, written, journal_of, bound_digest, Stands}
+use Rattle.eon_model.specs.Journal.{record_body, written, bound_digest, Stands}
 use Rattle.eon_model.specs.JournalMoments.{IsAppending}
 use Rattle.eon_model.specs.JournalLaws.{WrittenEventsStand, AppendingLeavesEither}
 use Rattle.eon_model.proofs.JournalShape.{Stands-of}
