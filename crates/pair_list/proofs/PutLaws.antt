@@ -2,10 +2,10 @@
 use Rattle.std.proofs.Common.{◌≡◌, refl, sym, ◌∙◌, ap, ℕ, zero, suc, ◌+◌, ◌<◌, List, [], ◌∷◌, ◌++◌, map, length, take, Option, Some, None, slice_get, append_assoc, add-one, arith}
 use Rattle.std.specs.List.{filter_map, cons_option, flat_map}
 use Rattle.std.specs.Option.{option_and_then, option_to_list}
-use Rattle.std.proofs.lemmas.List.{map-append, append-nil}
+use Rattle.std.proofs.lemmas.List.{map-append}
 use Rattle.std.proofs.lemmas.Grind.{flat_map-append}
 use Rattle.eon_model.specs.declared.Class.{Class}
-use Rattle.eon_model.specs.declared.Class.TheVariants.{Bare, Shared}
+use Rattle.eon_model.specs.declared.Class.TheVariants.{Bare, Shared, Dual}
 use Rattle.eon_model.specs.Legal.{Setup}
 use Rattle.eon_model.specs.Candidates.{SizedRoute, Candidate, alone, with_backup, backed, candidates_over}
 
@@ -59,14 +59,4 @@ pub over-joins : (setup : Setup) (s t rate : ℕ) (class : Class) (xs ys : List 
     ≡ candidates_over setup s t rate class xs ++ candidates_over setup s t rate class ys
 over-joins setup s t rate Bare xs ys = map-append alone xs ys
 over-joins setup s t rate Shared xs ys = flat_map-append (backed setup s t rate) xs ys
-
-pub over-none : (setup : Setup) (s t rate : ℕ) (class : Class) → candidates_over setup s t rate class [] ≡ []
-over-none setup s t rate Bare = refl
-over-none setup s t rate Shared = refl
-
--- before the first
-pub put-none : {X Y Z : Type 0} (h : List Y → List Z) → h [] ≡ [] → (f : X → Option Y) (xs : List X)
-    (start : List Z) → start ≡ start ++ h (filter_map f (take 0 xs))
-put-none h e f xs start =
-    sym (append-nil start) ∙ ap (λ zs. start ++ zs) (sym e)
-    ∙ ap (λ ys. start ++ h (filter_map f ys)) (sym (none_taken xs))
+over-joins setup s t rate Dual xs ys = flat_map-append (backed setup s t rate) xs ys

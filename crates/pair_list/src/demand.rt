@@ -152,7 +152,7 @@ fn put_work<L: Ledger>(
         return Ok(());
     };
     match demand.class {
-        Class::Shared => put_protected(alloc, setup, demand, &work, pairs, steps),
+        Class::Shared | Class::Dual => put_protected(alloc, setup, demand, &work, pairs, steps),
         Class::Bare => {
             pairs.push(Pair {
                 work: work.route,

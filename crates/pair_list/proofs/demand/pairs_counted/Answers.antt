@@ -3,7 +3,7 @@ use Rattle.std.specs.List.{list_all}
 use Rattle.eon_model.specs.Candidates.{Candidate}
 use Rattle.eon_model.specs.Sets.{has_member}
 use Rattle.pair_list.proofs.BanLaws.{avoid-small}
-use Rattle.pair_list.proofs.FewLaws.{few-candidates}
+use Rattle.eon_model.proofs.FewCandidates.{few-candidates}
 use Rattle.pair_list.proofs.FoundLaws.{candidates-found}
 use Rattle.pair_list.specs.Sized.{is_sized_candidate}
 use Rattle.pair_list.proofs.SizedLaws.{candidates-sized}
