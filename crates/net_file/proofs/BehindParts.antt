@@ -5,7 +5,6 @@ use Rattle.std.specs.Option.{option_map, option_map_or, is_none}
 use Rattle.eon_model.specs.Names.{Name, has_name, same_name, is_above}
 use Rattle.eon_model.specs.Network.{Fibre, fibre_names, number_of, node_of}
 use Rattle.eon_model.specs.Formats.{Format}
-use Rattle.eon_model.specs.Legal.{Setup}
 use Rattle.eon_model.specs.NetworkFault.{Fields, Node, field_at, names_with, lines_with, last_fields, is_many, is_out_of_order, is_twice, has_unknown}
 use Rattle.eon_model.specs.NetworkFault as model
 use Rattle.reach_table.specs.Tables.{format_names}
@@ -14,7 +13,7 @@ use Rattle.net_graph.specs.Graph.{comes_after, node_fault, fibre_fault}
 use Rattle.net_graph.proofs.GroupLemmas.{has_number_of}
 use Rattle.net_file.specs.declared.fault.Why.TheVariants as why
 use Rattle.net_file.specs.Told.{why_told}
-use Rattle.net_file.specs.Steps.{format_why, graph_whys}
+use Rattle.net_file.specs.Steps.{SoFar, format_why, graph_whys}
 use Rattle.net_file.specs.Drafts.{lines_at, format_line_words, node_line_words, fibre_line_words}
 use Rattle.net_file.proofs.CauseParts.{behind}
 use Rattle.net_file.proofs.LineLists.{formats_with, nodes_with, fibres_with, names_mapped, last_compared, length_mapped}
@@ -28,7 +27,7 @@ format_cases true twice = refl
 format_cases false true = refl
 format_cases false false = refl
 
-pub behind-format : (far : ℕ) (s : Setup) (name : Name) (rest : Fields) →
+pub behind-format : (far : ℕ) (s : SoFar) (name : Name) (rest : Fields) →
     behind (lines_at far s) model.Format (codes "format" ∷ name ∷ rest) ≡ option_map why_told (format_why s.formats name)
 behind-format far s name rest =
     let lines = formats_with far s in
@@ -59,7 +58,7 @@ same : (names : List Name) → map (λ (n : Name). n) names ≡ names
 same [] = refl
 same (n ∷ names) = ap (λ (v : List Name). n ∷ v) (same names)
 
-pub behind-node : (far : ℕ) (s : Setup) (name : Name) (rest : Fields) →
+pub behind-node : (far : ℕ) (s : SoFar) (name : Name) (rest : Fields) →
     behind (lines_at far s) Node (codes "node" ∷ name ∷ rest) ≡ option_map why_told (graph_whys (node_fault s.network name))
 behind-node far s name rest =
     let nodes = s.network.nodes in
@@ -97,7 +96,7 @@ not_some (Some n) = refl
 pub unknown_name : (names : List Name) (name : Name) → not (has_name names name) ≡ is_none (number_of names name)
 unknown_name names name = ap not (sym (has_number_of names name)) ∙ not_some (number_of names name)
 
-pub behind-fibre : (far : ℕ) (s : Setup) (name a b : Name) (rest : Fields) →
+pub behind-fibre : (far : ℕ) (s : SoFar) (name a b : Name) (rest : Fields) →
     behind (lines_at far s) model.Fibre (codes "fibre" ∷ name ∷ a ∷ b ∷ rest)
     ≡ option_map why_told (graph_whys (fibre_fault s.network name a b))
 behind-fibre far s name a b rest =

@@ -111,27 +111,27 @@ false_last true true false = refl
 false_last true false c = refl
 false_last false b c = refl
 
-short_fibre : (word : List ℕ) (rest : Fields) → matches fibre_kinds rest ≡ is_some (fibre_words rest) →
+short_fibre : (earlier : List Fields) (word : List ℕ) (rest : Fields) → matches fibre_kinds rest ≡ is_some (fibre_words rest) →
     matches fibre_kinds rest ≡ false →
-    ReadsAs model.Fibre word rest (fibre_words rest) has_fibre_range fibre_rest
-short_fibre word rest form none = record {
+    ReadsAs earlier model.Fibre word rest (fibre_words rest) has_fibre_range fibre_rest
+short_fibre earlier word rest form none = record {
   form = form_of model.Fibre fibre_kinds word rest refl ∙ form;
   ranges = λ a e. absurd (unread (fibre_words rest) a (sym none ∙ form) e);
   spelled = λ a e t. absurd (unread (fibre_words rest) a (sym none ∙ form) e);
 }
 
-pub fibre_reads : (word : List ℕ) (rest : Fields) →
-    ReadsAs model.Fibre word rest (fibre_words rest) has_fibre_range fibre_rest
+pub fibre_reads : (earlier : List Fields) (word : List ℕ) (rest : Fields) →
+    ReadsAs earlier model.Fibre word rest (fibre_words rest) has_fibre_range fibre_rest
 unfolding fibre_words
-fibre_reads word [] = short_fibre word [] refl refl
-fibre_reads word (x ∷ []) = short_fibre word (x ∷ []) (none_one x) (false_last (is_name x) true true)
-fibre_reads word (x ∷ y ∷ []) = short_fibre word (x ∷ y ∷ []) (none_two x y) (false_last (is_name x) (is_name y) true)
-fibre_reads word (x ∷ y ∷ z ∷ []) =
-    short_fibre word (x ∷ y ∷ z ∷ []) (none_three x y z) (false_last (is_name x) (is_name y) (is_name z))
-fibre_reads word (x ∷ y ∷ z ∷ u ∷ []) = record {
+fibre_reads earlier word [] = short_fibre earlier word [] refl refl
+fibre_reads earlier word (x ∷ []) = short_fibre earlier word (x ∷ []) (none_one x) (false_last (is_name x) true true)
+fibre_reads earlier word (x ∷ y ∷ []) = short_fibre earlier word (x ∷ y ∷ []) (none_two x y) (false_last (is_name x) (is_name y) true)
+fibre_reads earlier word (x ∷ y ∷ z ∷ []) =
+    short_fibre earlier word (x ∷ y ∷ z ∷ []) (none_three x y z) (false_last (is_name x) (is_name y) (is_name z))
+fibre_reads earlier word (x ∷ y ∷ z ∷ u ∷ []) = record {
   form = form_of model.Fibre fibre_kinds word (x ∷ y ∷ z ∷ u ∷ []) refl ∙ four_form true x y z u;
   ranges = λ f e. let r = four_read true x y z u f e in
-      ranges_of model.Fibre fibre_kinds word (x ∷ y ∷ z ∷ u ∷ []) refl
+      ranges_of earlier model.Fibre fibre_kinds word (x ∷ y ∷ z ∷ u ∷ []) refl
       ∙ plain (is_within 1 100000 (number_value u)) ∙ capped_range 1 100000 (number_value u) (omega arith)
       ∙ ap (is_within 1 100000) r.km;
   spelled = λ f e t.
@@ -143,7 +143,7 @@ fibre_reads word (x ∷ y ∷ z ∷ u ∷ []) = record {
     plain : (b : Bool) → ((b && true) && true) ≡ b
     plain true = refl
     plain false = refl
-fibre_reads word (x ∷ y ∷ z ∷ u ∷ v ∷ rest) = record {
+fibre_reads earlier word (x ∷ y ∷ z ∷ u ∷ v ∷ rest) = record {
   form = form_of model.Fibre fibre_kinds word (x ∷ y ∷ z ∷ u ∷ v ∷ rest) refl ∙ four_form false x y z u;
   ranges = λ f e. let r = four_read false x y z u f e in let k = r.all in cc;
   spelled = λ f e t. let r = four_read false x y z u f e in let k = r.all in cc;
@@ -184,24 +184,24 @@ and_false : (b : Bool) → (b && false) ≡ false
 and_false true = refl
 and_false false = refl
 
-pub group_reads : (word : List ℕ) (rest : Fields) →
-    ReadsAs model.Group word rest (group_words rest) is_any group_rest
-group_reads word [] = record {
+pub group_reads : (earlier : List Fields) (word : List ℕ) (rest : Fields) →
+    ReadsAs earlier model.Group word rest (group_words rest) is_any group_rest
+group_reads earlier word [] = record {
   form = form_of model.Group (group_kinds 0) word [] refl;
   ranges = λ a e. cc;
   spelled = λ a e t. cc;
 }
-group_reads word (x ∷ []) = record {
+group_reads earlier word (x ∷ []) = record {
   form = form_of model.Group (group_kinds 0) word (x ∷ []) refl ∙ and_false (is_name x);
   ranges = λ a e. cc;
   spelled = λ a e t. cc;
 }
-group_reads word (x ∷ y ∷ rest) = record {
+group_reads earlier word (x ∷ y ∷ rest) = record {
   form = form_of model.Group (group_kinds (length rest)) word (x ∷ y ∷ rest) (group_after (length rest))
       ∙ ap (λ b. is_name x && (is_name y && b)) (all_names rest)
       ∙ is_read (is_name x && list_all is_name (y ∷ rest)) (x, y ∷ rest);
   ranges = λ a e.
-      ranges_of model.Group (group_kinds (length rest)) word (x ∷ y ∷ rest) (group_after (length rest))
+      ranges_of earlier model.Group (group_kinds (length rest)) word (x ∷ y ∷ rest) (group_after (length rest))
       ∙ ap (λ b. b && true) (free_names (length rest) rest);
   spelled = λ a e t.
       let is = read_is (is_name x && list_all is_name (y ∷ rest)) (x, y ∷ rest) a e in

@@ -53,13 +53,13 @@ form_of w kinds word rest e =
     ∙ same_length kinds rest
 
 -- and these ranges
-pub ranges_of : (w : Word) (kinds : List Field) (word : List ℕ) (rest : Fields) →
-    fields_after w (length rest) ≡ kinds → has_ranges w (word ∷ rest)
-    ≡ (list_all is_in_range (zip kinds rest) && units_in_range w (word ∷ rest))
-ranges_of w kinds word rest e =
+pub ranges_of : (earlier : List Fields) (w : Word) (kinds : List Field) (word : List ℕ) (rest : Fields) →
+    fields_after w (length rest) ≡ kinds → has_ranges earlier w (word ∷ rest)
+    ≡ (list_all is_in_range (zip kinds rest) && units_in_range earlier w (word ∷ rest))
+ranges_of earlier w kinds word rest e =
     let count : suc (length rest) - 1 ≡ length rest = omega arith in
     let after = ap (fields_after w) count ∙ e in
-    λ i. list_all is_in_range (zip (after i) rest) && units_in_range w (word ∷ rest)
+    λ i. list_all is_in_range (zip (after i) rest) && units_in_range earlier w (word ∷ rest)
 
 -- ---- what is read, one field after another
 
@@ -79,18 +79,18 @@ is_value x y e = cc
 
 -- What the fields behind a word are read as: something exactly where they have the form, in range exactly where the
 -- value passes, and then they are its spelling.
-pub record ReadsAs {A : Type 0} (w : Word) (word : List ℕ) (rest : Fields) (o : Option A) (test : A → Bool)
+pub record ReadsAs {A : Type 0} (earlier : List Fields) (w : Word) (word : List ℕ) (rest : Fields) (o : Option A) (test : A → Bool)
     (spell : A → Fields) : Type 0 where
   pub form : has_form w (word ∷ rest) ≡ is_some o
-  pub ranges : (a : A) → o ≡ Some a → has_ranges w (word ∷ rest) ≡ test a
+  pub ranges : (a : A) → o ≡ Some a → has_ranges earlier w (word ∷ rest) ≡ test a
   pub spelled : (a : A) → o ≡ Some a → test a ≡ true → rest ≡ spell a
 
-front_by : {A : Type 0} (w : Word) (fields : Fields) (o : Option A) (test : A → Bool) (rest : Option model.Why) →
-    has_form w fields ≡ is_some o → ((a : A) → o ≡ Some a → has_ranges w fields ≡ test a) →
-    front w fields rest ≡ told (ranged test o) rest
-front_by w fields None test rest form ranges =
-    λ i. cond (not (form i)) (Some model.Form) (cond (not (has_ranges w fields)) (Some model.Range) rest)
-front_by w fields (Some a) test rest form ranges =
+front_by : {A : Type 0} (earlier : List Fields) (w : Word) (fields : Fields) (o : Option A) (test : A → Bool) (rest : Option model.Why) →
+    has_form w fields ≡ is_some o → ((a : A) → o ≡ Some a → has_ranges earlier w fields ≡ test a) →
+    front earlier w fields rest ≡ told (ranged test o) rest
+front_by earlier w fields None test rest form ranges =
+    λ i. cond (not (form i)) (Some model.Form) (cond (not (has_ranges earlier w fields)) (Some model.Range) rest)
+front_by earlier w fields (Some a) test rest form ranges =
     (λ i. cond (not (form i)) (Some model.Form) (cond (not (ranges a refl i)) (Some model.Range) rest))
     ∙ by_test (test a)
   where
@@ -99,7 +99,7 @@ front_by w fields (Some a) test rest form ranges =
     by_test false = refl
 
 -- the causes of form and range are those that the reader tells
-pub front-told : {A : Type 0} (w : Word) (word : List ℕ) (rest : Fields) (o : Option A) (test : A → Bool)
-    (spell : A → Fields) (more : Option model.Why) → ReadsAs w word rest o test spell →
-    front w (word ∷ rest) more ≡ told (ranged test o) more
-front-told w word rest o test spell more r = front_by w (word ∷ rest) o test more r.form r.ranges
+pub front-told : {A : Type 0} (earlier : List Fields) (w : Word) (word : List ℕ) (rest : Fields) (o : Option A) (test : A → Bool)
+    (spell : A → Fields) (more : Option model.Why) → ReadsAs earlier w word rest o test spell →
+    front earlier w (word ∷ rest) more ≡ told (ranged test o) more
+front-told earlier w word rest o test spell more r = front_by earlier w (word ∷ rest) o test more r.form r.ranges

@@ -10,7 +10,6 @@ use Rattle.eon_model.specs.Names.{Name, is_name, has_name, same_name, ascend}
 use Rattle.eon_model.specs.Lists.{has_number, numbers_ascend}
 use Rattle.eon_model.specs.Network.{Network, Fibre, Group, name_at, fibre_at, fibre_names, group_names, names_of_fibres, number_of, fibre_of}
 use Rattle.eon_model.specs.Step.{fibres_numbered}
-use Rattle.eon_model.specs.Legal.{Setup}
 use Rattle.eon_model.specs.NetworkText.{is_group_among}
 use Rattle.eon_model.specs.NetworkFault.{Fields, field_at, names_with, lines_with, last_fields, is_many, is_out_of_order, is_twice, has_unknown, is_in_a_ninth, groups_with}
 use Rattle.eon_model.specs.NetworkFault as model
@@ -22,7 +21,7 @@ use Rattle.net_graph.specs.Graph.{is_graph, comes_after, group_fault, holders}
 use Rattle.net_graph.proofs.GraphParts.{parts_of}
 use Rattle.net_graph.proofs.WordLemmas.{same_bool}
 use Rattle.net_file.specs.Told.{why_told}
-use Rattle.net_file.specs.Steps.{graph_whys}
+use Rattle.net_file.specs.Steps.{SoFar, graph_whys}
 use Rattle.net_file.specs.Drafts.{lines_at, fibre_line_words, group_line_words}
 use Rattle.net_file.proofs.CauseParts.{behind}
 use Rattle.net_file.proofs.LineLists.{fibres_with, groups_with_word, names_mapped, last_compared, length_mapped}
@@ -129,7 +128,7 @@ any_same : {X : Type 0} (p q : X → Bool) → ((x : X) → p x ≡ q x) → (xs
 any_same p q same [] = refl
 any_same p q same (x ∷ xs) = λ i. same x i || any_same p q same xs i
 
-pub behind-group : (far : ℕ) (s : Setup) → is_graph s.network ≡ true → (name : Name) (members : List Name) →
+pub behind-group : (far : ℕ) (s : SoFar) → is_graph s.network ≡ true → (name : Name) (members : List Name) →
     behind (lines_at far s) model.Group (codes "group" ∷ name ∷ members)
     ≡ option_map why_told (graph_whys (group_fault s.network name members))
 behind-group far s graph name members =

@@ -7,8 +7,7 @@ use Rattle.std.proofs.lemmas.Bool.{and_parts, or_parts}
 use Rattle.eon_model.specs.Names.{Name, is_name, has_name, ascend}
 use Rattle.eon_model.specs.Network.{Network, fibre_names, group_names, names_of_fibres, fibre_of}
 use Rattle.eon_model.specs.Step.{fibres_numbered}
-use Rattle.eon_model.specs.Legal.{Setup}
-use Rattle.eon_model.specs.NetworkFault.{Word, Field, Fields, AName, ANumber, End, has_form, last_word, may_stand_after}
+use Rattle.eon_model.specs.NetworkFault.{Word, Field, Fields, AName, ANumber, End, has_form, last_word}
 use Rattle.eon_model.specs.NetworkFault as model
 use Rattle.eon_model.proofs.NamePlaceLaws.{name-fibre_at}
 use Rattle.net_graph.specs.declared.graph.GraphFault.TheVariants as graph
@@ -17,12 +16,13 @@ use Rattle.net_graph.proofs.JoinLemmas.{graph-with_group, group-among}
 use Rattle.net_graph.proofs.FaultLemmas.{group-accepts}
 use Rattle.net_file.specs.declared.fault.Why.{Why}
 use Rattle.net_file.specs.LineWords.{ranged}
-use Rattle.net_file.specs.Steps.{Sheet, on_ok, unless_fault, told_by, with_network, graph_whys, is_any, group_words, group_step, setup_step}
+use Rattle.net_file.specs.Steps.{SoFar, Sheet, on_ok, unless_fault, told_by, may_come, with_network, graph_whys, is_any, group_words, group_step, setup_step}
 use Rattle.net_file.specs.Drafts.{rank, net_words, lines_of, Sound}
 use Rattle.net_file.proofs.FibreParts.{group_rest, group_reads}
-use Rattle.net_file.proofs.RankLaws.{may-far}
+use Rattle.net_file.proofs.RankLaws.{come-far}
 use Rattle.net_file.proofs.GroupParts.{behind-group}
 use Rattle.net_file.proofs.LineGrowth.{last-word, network-grows, group-grows}
+use Rattle.net_file.proofs.BandLines.{band-later}
 use Rattle.net_file.proofs.StepParts.{Takes, Follows, Grows, nested, line-takes, checked}
 use Rattle.net_file.proofs.NetSteps.{named_at}
 
@@ -60,12 +60,12 @@ members_named net (name ∷ members) h =
     let p = or_parts (is_none (fibre_of net name)) (list_any (λ f. is_none (fibre_of net f)) members) h in
     named_by net members name (fibre_of net name) refl p.0 (members_named net members p.1)
 
-group_grown : (s : Sheet) → Sound s → may_stand_after s.last model.Group ≡ true → (g : Name × List Name) →
+group_grown : (s : Sheet) → Sound s → may_come s model.Group ≡ true → (g : Name × List Name) →
     is_name g.0 ≡ true → 0 < length g.1 → graph_whys (group_fault s.setup.network g.0 g.1) ≡ None →
     Grows s (codes "group" ∷ group_rest g) (told_by model.Group
     (with_network s.setup (with_group s.setup.network (group_named s.setup.network g.0 g.1))))
 group_grown s sound may g named some free =
-    let far = may-far s.last model.Group may in
+    let far = come-far s model.Group may in
     let r = sound.ranges in
     let net = s.setup.network in
     let made = group_named net g.0 g.1 in
@@ -80,7 +80,7 @@ group_grown s sound may g named some free =
     record {
       sound = record {
         ranges = record {
-          band = r.band;
+          version = r.version;
           guard = r.guard;
           k = r.k;
           services = r.services;
@@ -88,6 +88,8 @@ group_grown s sound may g named some free =
           rows = r.rows;
           graph = graph-with_group net made r.graph ok.few among ok.after ok.room;
         };
+        band = band-later (rank s.last) 10 s.setup.version s.setup.band (omega arith) (omega arith) sound.band;
+        no_version = λ l. absurd (omega arith);
         last = ap last_word lines ∙ last-word (lines_of s) (codes "group" ∷ group_rest g) model.Group refl;
         no_formats = λ l. absurd (omega arith);
         no_nodes = λ l. absurd (omega arith);
@@ -118,7 +120,7 @@ group_read (x ∷ y ∷ rest) g e =
     group_chosen (is_name x && list_all is_name (y ∷ rest)) x y rest g
     (λ h. (and_parts (is_name x) (list_all is_name (y ∷ rest)) h).0) e
 
-pub group-takes : (s : Sheet) → Sound s → may_stand_after s.last model.Group ≡ true → (rest : Fields) →
+pub group-takes : (s : Sheet) → Sound s → may_come s model.Group ≡ true → (rest : Fields) →
     Takes s (codes "group" ∷ rest) (on_ok (λ setup. Ok (told_by model.Group setup)) (setup_step model.Group s.setup rest))
 unfolding setup_step group_step
 group-takes s sound may rest =
@@ -127,10 +129,10 @@ group-takes s sound may rest =
     let word = codes "group" in
     let check = λ (g : Name × List Name). unless_fault (graph_whys (group_fault net g.0 g.1))
     (with_group net (group_named net g.0 g.1)) in
-    subst (λ (v : Result Setup Why). Takes s (word ∷ rest) (on_ok (λ setup. Ok (told_by model.Group setup)) v))
+    subst (λ (v : Result SoFar Why). Takes s (word ∷ rest) (on_ok (λ setup. Ok (told_by model.Group setup)) v))
     (sym (nested (λ (n : Network). Ok (put n)) check (ranged is_any (group_words rest))))
     (line-takes s model.Group word rest (group_words rest) is_any group_rest
-    (λ g. on_ok (λ (n : Network). Ok (put n)) (check g)) sound refl may (group_reads word rest)
+    (λ g. on_ok (λ (n : Network). Ok (put n)) (check g)) sound refl may (group_reads (lines_of s) word rest)
     (λ g e t is.
     let read = group_read rest g e in
     subst (λ (v : Fields). Follows s model.Group (word ∷ v) (on_ok (λ (n : Network). Ok (put n)) (check g))) (sym is)

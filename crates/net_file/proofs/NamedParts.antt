@@ -19,21 +19,21 @@ use Rattle.net_file.proofs.NumberParts.{cap, capped_range, capped_spelled}
 abbrev pub node_rest : Name → Fields
 node_rest name = name ∷ []
 
-pub node_reads : (word : List ℕ) (rest : Fields) → ReadsAs Node word rest (node_words rest) is_any node_rest
+pub node_reads : (earlier : List Fields) (word : List ℕ) (rest : Fields) → ReadsAs earlier Node word rest (node_words rest) is_any node_rest
 unfolding node_words
-node_reads word [] = record {
+node_reads earlier word [] = record {
   form = form_of Node (AName ∷ []) word [] refl;
   ranges = λ a e. cc;
   spelled = λ a e t. cc;
 }
-node_reads word (x ∷ []) = record {
+node_reads earlier word (x ∷ []) = record {
   form = form_of Node (AName ∷ []) word (x ∷ []) refl
       ∙ and_more (is_name x) x (λ (name : Name). then_some true name) true refl;
-  ranges = λ a e. ranges_of Node (AName ∷ []) word (x ∷ []) refl;
+  ranges = λ a e. ranges_of earlier Node (AName ∷ []) word (x ∷ []) refl;
   spelled = λ a e t. let p = through (is_name x) x (λ (name : Name). then_some true name) a e in
       ap (λ (b : List ℕ). b ∷ []) (is_value x a p.1);
 }
-node_reads word (x ∷ y ∷ rest) = record {
+node_reads earlier word (x ∷ y ∷ rest) = record {
   form = form_of Node (AName ∷ []) word (x ∷ y ∷ rest) refl
       ∙ and_more (is_name x) x (λ (name : Name). then_some false name) false refl;
   ranges = λ a e. let p = through (is_name x) x (λ (name : Name). then_some false name) a e in cc;
@@ -129,20 +129,20 @@ format_ranges f y z ey ez =
     plain true false = refl
     plain false b = refl
 
-pub format_reads : (word : List ℕ) (rest : Fields) →
-    ReadsAs model.Format word rest (format_words rest) has_format_ranges format_rest
+pub format_reads : (earlier : List Fields) (word : List ℕ) (rest : Fields) →
+    ReadsAs earlier model.Format word rest (format_words rest) has_format_ranges format_rest
 unfolding format_words
-format_reads word [] = record {
+format_reads earlier word [] = record {
   form = form_of model.Format format_kinds word [] refl;
   ranges = λ a e. cc;
   spelled = λ a e t. cc;
 }
-format_reads word (x ∷ []) = record {
+format_reads earlier word (x ∷ []) = record {
   form = form_of model.Format format_kinds word (x ∷ []) refl ∙ no_format (is_name x) x;
   ranges = λ a e. absurd (short_format (is_name x) x a e);
   spelled = λ a e t. absurd (short_format (is_name x) x a e);
 }
-format_reads word (x ∷ y ∷ []) = record {
+format_reads earlier word (x ∷ y ∷ []) = record {
   form = form_of model.Format format_kinds word (x ∷ y ∷ []) refl
       ∙ and_more (is_name x) x (λ (name : Name). option_and_then (λ (reach : ℕ). no_format_words) (capped y)) (is_number y && false)
       (and_more (is_number y) (cap (number_value y)) (λ (reach : ℕ). no_format_words) false refl);
@@ -153,10 +153,10 @@ format_reads word (x ∷ y ∷ []) = record {
       let p = through (is_name x) x (λ (name : Name). option_and_then (λ (reach : ℕ). no_format_words) (capped y)) a e in
       let q = through (is_number y) (cap (number_value y)) (λ (reach : ℕ). no_format_words) a p.1 in cc;
 }
-format_reads word (x ∷ y ∷ z ∷ []) = record {
+format_reads earlier word (x ∷ y ∷ z ∷ []) = record {
   form = form_of model.Format format_kinds word (x ∷ y ∷ z ∷ []) refl ∙ three_form true x y z;
   ranges = λ a e. let r = three_read true x y z a e in
-      ranges_of model.Format format_kinds word (x ∷ y ∷ z ∷ []) refl ∙ format_ranges a y z r.reach r.per;
+      ranges_of earlier model.Format format_kinds word (x ∷ y ∷ z ∷ []) refl ∙ format_ranges a y z r.reach r.per;
   spelled = λ a e t.
       let r = three_read true x y z a e in
       let p = and_parts (is_within 1 100000 a.reach) (is_within 1 10000 a.per) t in
@@ -165,7 +165,7 @@ format_reads word (x ∷ y ∷ z ∷ []) = record {
       let per = capped_spelled 1 10000 z (omega arith) r.z_is (ap (is_within 1 10000) r.per ∙ p.1) ∙ ap decimal r.per in
       λ i. r.name i ∷ reach i ∷ per i ∷ [];
 }
-format_reads word (x ∷ y ∷ z ∷ u ∷ rest) = record {
+format_reads earlier word (x ∷ y ∷ z ∷ u ∷ rest) = record {
   form = form_of model.Format format_kinds word (x ∷ y ∷ z ∷ u ∷ rest) refl ∙ three_form false x y z;
   ranges = λ a e. let r = three_read false x y z a e in let k = r.all in cc;
   spelled = λ a e t. let r = three_read false x y z a e in let k = r.all in cc;

@@ -8,8 +8,7 @@ use Rattle.std.proofs.lemmas.Bool.{and_parts, leb-true}
 use Rattle.eon_model.specs.Names.{Name, is_name, same_name}
 use Rattle.eon_model.specs.Network.{Network, name_at, fibre_names, number_of, node_of}
 use Rattle.eon_model.specs.Step.{node_numbered}
-use Rattle.eon_model.specs.Legal.{Setup}
-use Rattle.eon_model.specs.NetworkFault.{Word, Field, Fields, AName, ANumber, End, has_form, last_word, may_stand_after}
+use Rattle.eon_model.specs.NetworkFault.{Word, Field, Fields, AName, ANumber, End, has_form, last_word}
 use Rattle.eon_model.specs.NetworkFault as model
 use Rattle.eon_model.proofs.NumberLaws.{same-name}
 use Rattle.net_graph.specs.declared.graph.GraphFault.TheVariants as graph
@@ -19,14 +18,15 @@ use Rattle.net_graph.proofs.FaultLemmas.{fibre-accepts, fibre-among}
 use Rattle.net_file.specs.declared.fault.Why.{Why}
 use Rattle.net_file.specs.declared.line_words.FibreWords.{FibreWords}
 use Rattle.net_file.specs.LineWords.{ranged, fibre_words}
-use Rattle.net_file.specs.Steps.{Sheet, on_ok, unless_fault, told_by, with_network, graph_whys, has_fibre_range, fibre_step, setup_step}
+use Rattle.net_file.specs.Steps.{SoFar, Sheet, on_ok, unless_fault, told_by, may_come, with_network, graph_whys, has_fibre_range, fibre_step, setup_step}
 use Rattle.net_file.specs.Drafts.{rank, fibre_line_words, net_words, lines_of, Sound}
 use Rattle.net_file.proofs.FibreParts.{fibre_rest, fibre_reads}
-use Rattle.net_file.proofs.RankLaws.{may-far}
+use Rattle.net_file.proofs.RankLaws.{come-far}
 use Rattle.net_file.proofs.BehindParts.{behind-fibre}
 use Rattle.net_file.proofs.GroupParts.{name_at-got}
 use Rattle.net_file.proofs.LineGrowth.{last-word, network-grows, fibre-grows}
 use Rattle.net_file.proofs.TableSteps.{formed}
+use Rattle.net_file.proofs.BandLines.{band-later}
 use Rattle.net_file.proofs.StepParts.{Takes, Follows, Grows, nested, line-takes, checked}
 
 -- the name with the number that a name has
@@ -62,13 +62,13 @@ fibre_spelled net f none =
     let b = named_at net.nodes f.b (node_numbered net f.b) ok.in_b in
     λ i. codes "fibre" ∷ f.name ∷ a i ∷ b i ∷ decimal f.km ∷ []
 
-fibre_grown : (s : Sheet) → Sound s → may_stand_after s.last model.Fibre ≡ true → (f : FibreWords) →
+fibre_grown : (s : Sheet) → Sound s → may_come s model.Fibre ≡ true → (f : FibreWords) →
     is_name f.name ≡ true → has_fibre_range f ≡ true →
     graph_whys (fibre_fault s.setup.network f.name f.a f.b) ≡ None →
     Grows s (codes "fibre" ∷ fibre_rest f) (told_by model.Fibre
     (with_network s.setup (with_fibre s.setup.network (fibre_between s.setup.network f.name f.a f.b f.km))))
 fibre_grown s sound may f named within free =
-    let far = may-far s.last model.Fibre may in
+    let far = come-far s model.Fibre may in
     let r = sound.ranges in
     let net = s.setup.network in
     let made = fibre_between net f.name f.a f.b f.km in
@@ -84,7 +84,7 @@ fibre_grown s sound may f named within free =
     record {
       sound = record {
         ranges = record {
-          band = r.band;
+          version = r.version;
           guard = r.guard;
           k = r.k;
           services = r.services;
@@ -92,6 +92,8 @@ fibre_grown s sound may f named within free =
           rows = r.rows;
           graph = graph-with_fibre net made r.graph groups ok.few among ok.after;
         };
+        band = band-later (rank s.last) 9 s.setup.version s.setup.band (omega arith) (omega arith) sound.band;
+        no_version = λ l. absurd (omega arith);
         last = ap last_word lines ∙ last-word (lines_of s) (codes "fibre" ∷ fibre_rest f) model.Fibre refl;
         no_formats = λ l. absurd (omega arith);
         no_nodes = λ l. absurd (omega arith);
@@ -103,7 +105,7 @@ fibre_grown s sound may f named within free =
       lines = lines;
     }
 
-pub fibre-takes : (s : Sheet) → Sound s → may_stand_after s.last model.Fibre ≡ true → (rest : Fields) →
+pub fibre-takes : (s : Sheet) → Sound s → may_come s model.Fibre ≡ true → (rest : Fields) →
     Takes s (codes "fibre" ∷ rest) (on_ok (λ setup. Ok (told_by model.Fibre setup)) (setup_step model.Fibre s.setup rest))
 unfolding setup_step fibre_step
 fibre-takes s sound may rest =
@@ -112,13 +114,13 @@ fibre-takes s sound may rest =
     let word = codes "fibre" in
     let check = λ (f : FibreWords). unless_fault (graph_whys (fibre_fault net f.name f.a f.b))
     (with_fibre net (fibre_between net f.name f.a f.b f.km)) in
-    subst (λ (v : Result Setup Why). Takes s (word ∷ rest) (on_ok (λ setup. Ok (told_by model.Fibre setup)) v))
+    subst (λ (v : Result SoFar Why). Takes s (word ∷ rest) (on_ok (λ setup. Ok (told_by model.Fibre setup)) v))
     (sym (nested (λ (n : Network). Ok (put n)) check (ranged has_fibre_range (fibre_words rest))))
     (line-takes s model.Fibre word rest (fibre_words rest) has_fibre_range fibre_rest
-    (λ f. on_ok (λ (n : Network). Ok (put n)) (check f)) sound refl may (fibre_reads word rest)
+    (λ f. on_ok (λ (n : Network). Ok (put n)) (check f)) sound refl may (fibre_reads (lines_of s) word rest)
     (λ f e t is.
     let form = formed model.Fibre (AName ∷ AName ∷ AName ∷ ANumber 1 100000 ∷ []) word rest (fibre_rest f)
-    (fibre_words rest) f (fibre_reads word rest).form e is refl in
+    (fibre_words rest) f (fibre_reads (lines_of s) word rest).form e is refl in
     let named = (and_parts (is_name f.name) _ form).0 in
     subst (λ (v : Fields). Follows s model.Fibre (word ∷ v) (on_ok (λ (n : Network). Ok (put n)) (check f))) (sym is)
     (checked s model.Fibre (word ∷ fibre_rest f) (graph_whys (fibre_fault net f.name f.a f.b))

@@ -56,7 +56,7 @@ abbrev pub one : ℕ → Fields
 one n = decimal n ∷ []
 
 module _ (w : Word) (least most : ℕ) (after : (n : ℕ) → fields_after w n ≡ ANumber least most ∷ [])
-    (free : (fields : Fields) → units_in_range w fields ≡ true) (small : most < 2 ^ 64 - 1) where
+    (free : (earlier : List Fields) (fields : Fields) → units_in_range earlier w fields ≡ true) (small : most < 2 ^ 64 - 1) where
   and_true : (b : Bool) → ((b && true) && true) ≡ b
   and_true true = refl
   and_true false = refl
@@ -67,27 +67,27 @@ module _ (w : Word) (least most : ℕ) (after : (n : ℕ) → fields_after w n �
       let p = through (is_number x) (cap (number_value x)) (λ n. then_some true n) n e in
       (p.0, is_value (cap (number_value x)) n p.1)
 
-  pub number_reads : (word : List ℕ) (rest : Fields) →
-      ReadsAs w word rest (one_number rest) (is_within least most) one
+  pub number_reads : (earlier : List Fields) (word : List ℕ) (rest : Fields) →
+      ReadsAs earlier w word rest (one_number rest) (is_within least most) one
   unfolding one_number
-  number_reads word [] = record {
+  number_reads earlier word [] = record {
     form = form_of w (ANumber least most ∷ []) word [] (after 0);
     ranges = λ a e. cc;
     spelled = λ a e t. cc;
   }
-  number_reads word (x ∷ []) = record {
+  number_reads earlier word (x ∷ []) = record {
     form = form_of w (ANumber least most ∷ []) word (x ∷ []) (after 1)
         ∙ and_more (is_number x) (cap (number_value x)) (λ n. then_some true n) true refl;
     ranges = λ a e. let v = value_of x a e in
-        ranges_of w (ANumber least most ∷ []) word (x ∷ []) (after 1)
-        ∙ (λ i. (is_within least most (number_value x) && true) && free (word ∷ x ∷ []) i)
+        ranges_of earlier w (ANumber least most ∷ []) word (x ∷ []) (after 1)
+        ∙ (λ i. (is_within least most (number_value x) && true) && free earlier (word ∷ x ∷ []) i)
         ∙ and_true (is_within least most (number_value x))
         ∙ capped_range least most (number_value x) small ∙ ap (is_within least most) v.1;
     spelled = λ a e t. let v = value_of x a e in
         ap (λ (b : List ℕ). b ∷ []) (capped_spelled least most x small v.0 (ap (is_within least most) v.1 ∙ t)
         ∙ ap decimal v.1);
   }
-  number_reads word (x ∷ y ∷ rest) = record {
+  number_reads earlier word (x ∷ y ∷ rest) = record {
     form = form_of w (ANumber least most ∷ []) word (x ∷ y ∷ rest) (after (length (x ∷ y ∷ rest)))
         ∙ and_more (is_number x) (cap (number_value x)) (λ n. then_some false n) false refl;
     ranges = λ a e. let p = through (is_number x) (cap (number_value x)) (λ n. then_some false n) a e in cc;

@@ -1,5 +1,5 @@
 -- Bytes added one after the other, and the texts of parts by their numbers.
-use Rattle.std.proofs.Common.{◌≡◌, refl, sym, ◌∙◌, ap, subst, inl, inr, ℕ, zero, suc, ◌+◌, ◌<◌, ◌≤◌, true, false, cond, ◌||◌, List, [], ◌∷◌, ◌++◌, length, map, take, get_or, Bor, slice_get, Result, Ok, Err, ◌⊎◌, nat_eq, nat_lt, append_assoc, zero-add, arith}
+use Rattle.std.proofs.Common.{◌≡◌, refl, sym, ◌∙◌, ap, subst, inl, inr, ℕ, zero, suc, ◌+◌, ◌<◌, ◌≤◌, true, false, cond, ◌||◌, List, [], ◌∷◌, ◌++◌, length, map, take, get_or, Bor, slice_get, slice_index_or, Result, Ok, Err, ◌⊎◌, nat_eq, nat_lt, append_assoc, zero-add, arith}
 use Rattle.std.specs.Prelude.{codes}
 use Rattle.eon_model.specs.NetworkText.{number_line}
 use Rattle.std.specs.Option.{unwrap_or}
@@ -93,6 +93,12 @@ pub below-all : {X : Type 0} (text : X → List ℕ) (d : X) (xs : List X) →
 below-all text d [] = refl
 below-all text d (x ∷ xs) =
     below-first (λ i. text (unwrap_or (slice_get (x ∷ xs) i) d)) (length xs) ∙ ap (λ v. text x ++ v) (below-all text d xs)
+
+pub below-each : {X : Type 0} (text : X → List ℕ) (d : X) (xs : List X) →
+    each_below (λ i. text (slice_index_or xs i d)) (length xs) ≡ flat_map text xs
+below-each text d [] = refl
+below-each text d (x ∷ xs) =
+    below-first (λ i. text (slice_index_or (x ∷ xs) i d)) (length xs) ∙ ap (λ v. text x ++ v) (below-each text d xs)
 
 -- ---- numbers that ascend
 
@@ -218,11 +224,11 @@ pub adds-named : {X E : Type 0} (r : Result X E) (a b c d e w n : List ℕ) (ws 
 adds-named r a b c d e w n ws p q s h = adds-line r a b d e w (n ∷ ws) p (adds-both b c d (32 ∷ n) (behind ws) q s) h
 
 -- the lines before the formats, with the same numbers
-pub front-same : (net band : List ℕ) (a b c d e f g h : ℕ) → a ≡ b → c ≡ d → e ≡ f → g ≡ h →
-    net ++ band ++ number_line (codes "guard") a ++ number_line (codes "k") c ++ number_line (codes "services") e
+pub front-same : (m n : ℕ) (band : List ℕ) → m ≡ n → (a b c d e f g h : ℕ) → a ≡ b → c ≡ d → e ≡ f → g ≡ h →
+    number_line (codes "net") m ++ band ++ number_line (codes "guard") a ++ number_line (codes "k") c ++ number_line (codes "services") e
     ++ number_line (codes "journal") g
-    ≡ net ++ band ++ number_line (codes "guard") b ++ number_line (codes "k") d ++ number_line (codes "services") f
+    ≡ number_line (codes "net") n ++ band ++ number_line (codes "guard") b ++ number_line (codes "k") d ++ number_line (codes "services") f
     ++ number_line (codes "journal") h
-front-same net band a b c d e f g h p q r s =
-    λ i. net ++ band ++ number_line (codes "guard") (p i) ++ number_line (codes "k") (q i)
+front-same m n band v a b c d e f g h p q r s =
+    λ i. number_line (codes "net") (v i) ++ band ++ number_line (codes "guard") (p i) ++ number_line (codes "k") (q i)
     ++ number_line (codes "services") (r i) ++ number_line (codes "journal") (s i)

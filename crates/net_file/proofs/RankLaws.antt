@@ -1,11 +1,11 @@
 -- How far a text has come where a word may stand.
-use Rattle.std.proofs.Common.{◌≡◌, refl, ℕ, ◌≤◌, nat_le, Bool, true, false, ◌&&◌, ◌||◌, not, Option, Some, None}
+use Rattle.std.proofs.Common.{◌≡◌, refl, ℕ, ◌≤◌, nat_le, Bool, true, false, ◌&&◌, ◌||◌, not, [], Option, Some, None, arith}
 use Rattle.std.proofs.lemmas.Bool.{and_parts, leb-true}
 use Rattle.eon_model.specs.Numerals.{is_within}
 use Rattle.eon_model.specs.NetworkFault.{Word, Net, Band, Guard, K, Services, Journal, Node, End, may_stand_after, is_end}
 use Rattle.eon_model.specs.NetworkFault as model
-use Rattle.net_file.specs.Steps.{has_end}
-use Rattle.net_file.specs.Drafts.{rank}
+use Rattle.net_file.specs.Steps.{Sheet, has_end, has_its_parts, may_come}
+use Rattle.net_file.specs.Drafts.{rank, Sound}
 
 -- the least and the most that a word stands behind
 abbrev pub least_rank : Word → ℕ
@@ -23,7 +23,7 @@ least_rank End = 8
 
 abbrev pub most_rank : Word → ℕ
 most_rank Net = 0
-most_rank Band = 1
+most_rank Band = 2
 most_rank Guard = 2
 most_rank K = 3
 most_rank Services = 4
@@ -105,6 +105,13 @@ may-far last w h =
     let p = both (nat_le (least_rank w) (rank last)) (nat_le (rank last) (most_rank w))
     (within_where (may_stand_after last w) (is_within (least_rank w) (most_rank w) (rank last)) (placed last w) h) in
     record { least = leb-true (least_rank w) (rank last) p.0; most = leb-true (rank last) (most_rank w) p.1 }
+
+pub come-far : (s : Sheet) (w : Word) → may_come s w ≡ true → IsFar s.last w
+come-far s w h = may-far s.last w (both (may_stand_after s.last w) (has_its_parts s.setup w) h).0
+
+-- no group is told where a fibre may come
+pub fibre-groups : (s : Sheet) → Sound s → may_come s model.Fibre ≡ true → s.setup.network.groups ≡ []
+fibre-groups s sound may = let far = come-far s model.Fibre may in sound.no_groups (omega arith)
 
 -- a text that has ended has come farthest
 pub ended-far : (last : Option Word) → has_end last ≡ true → rank last ≡ 11

@@ -1,28 +1,35 @@
 -- A reader that goes from line to line is where the first fault of the text is sought.
-use Rattle.std.proofs.Common.{◌≡◌, refl, sym, ◌∙◌, ap, subst, ℕ, ◌+◌, ◌≤◌, Bool, true, false, cond, ◌&&◌, List, [], ◌∷◌, ◌++◌, length, map, drop, slice_get, nat_lt, nat_eq, Option, Some, None, Result, Ok, Err, append_assoc, arith}
+use Rattle.std.proofs.Common.{◌≡◌, refl, sym, ◌∙◌, ap, subst, ℕ, zero, suc, ◌+◌, ◌-◌, ◌≤◌, Bool, true, false, cond, ◌&&◌, List, [], ◌∷◌, ◌++◌, length, map, take, drop, slice_get, nat_le, nat_lt, Option, Some, None, is_some, Result, Ok, Err, append_assoc, arith}
+use Rattle.std.specs.Prelude.{codes, int_le, ◌-ℤ◌, pos}
+use Rattle.std.specs.List.{list_all}
 use Rattle.std.specs.Bool.{then_some}
 use Rattle.std.specs.Option.{option_map, option_or, option_map_or}
-use Rattle.std.proofs.lemmas.List.{append-nil}
-use Rattle.std.proofs.lemmas.Bool.{lt-ltb}
-use Rattle.eon_model.specs.Legal.{Setup}
+use Rattle.std.proofs.lemmas.List.{append-nil, length-append}
+use Rattle.std.proofs.lemmas.Bool.{and_parts, leb-true, lt-ltb}
+use Rattle.eon_model.specs.Grid.{Band, is_units, parts_ascend, span_of}
+use Rattle.eon_model.specs.Names.{differ}
+use Rattle.eon_model.specs.Formats.{Format}
 use Rattle.eon_model.specs.Spelling.{spaced, line, fields_of}
-use Rattle.eon_model.specs.NetworkText.{IsNetworkTextOf}
-use Rattle.eon_model.specs.NetworkFault.{Word, Fields, Rest, Short, has_ended, is_end, word_spelled, field_at, whole_lines, with_byte, cause_of, first_fault, network_fault}
+use Rattle.eon_model.specs.NetworkText.{version_of, is_format, IsNetworkTextOf}
+use Rattle.eon_model.specs.NetworkFault.{Word, Fields, Rest, Short, has_ended, is_end, word_spelled, field_at, whole_lines, cause_of, first_fault, network_fault}
 use Rattle.eon_model.proofs.NetworkTextLaws.{setup_words, text_words}
-use Rattle.text_fields.specs.Readings.{is_nil, has_nothing}
-use Rattle.text_fields.proofs.SplitText.{spaced-fields, text_of, lines-text, text-spaced}
+use Rattle.reach_table.specs.Tables.{format_names, are_rows}
+use Rattle.net_graph.proofs.GraphParts.{parts_of as graph_parts}
+use Rattle.net_file.specs.Readings.{is_nil, has_nothing}
+use Rattle.net_file.proofs.SplitText.{spaced-fields, text_of, lines-text, text-spaced}
 use Rattle.net_file.specs.declared.fault.Why.{Why}
 use Rattle.net_file.specs.declared.fault.Why.TheVariants as why
 use Rattle.net_file.specs.declared.fault.NetRefusal.{NetRefusal}
 use Rattle.net_file.specs.declared.fault.LineFault.{LineFault}
 use Rattle.net_file.specs.declared.fault.LineFault.TheVariants as fault
 use Rattle.net_file.specs.Told.{why_told, IsRefusalOf, refusal_at}
-use Rattle.net_file.specs.Steps.{Sheet, IsFaultOf, has_end, word_step, line_step}
-use Rattle.net_file.specs.Drafts.{blank, lines_at, lines_of, Sound}
+use Rattle.net_file.specs.Steps.{SoFar, Sheet, IsFaultOf, parts_of, setup_told, has_end, word_step, line_step}
+use Rattle.net_file.specs.Drafts.{blank, number_words, part_line_words, format_line_words, node_line_words, fibre_line_words, group_line_words, limit_words, net_words, end_words, head_at, lines_at, lines_of, rank, BandSoFar, Sound}
+use Rattle.net_file.proofs.LineLists.{length_mapped}
 use Rattle.net_file.proofs.RankLaws.{ended-far}
 use Rattle.net_file.proofs.StepParts.{Takes, Grows}
 use Rattle.net_file.proofs.LineLaws.{line-law}
-use Rattle.net_file.proofs.SetupParts.{setup-whole}
+use Rattle.net_file.proofs.SetupParts.{whole-band, setup-whole}
 
 -- Where the reader stands: after the lines that told the sheet, and before these lines and what follows them.
 pub record IsAt (bytes : List ℕ) (s : Sheet) (number : ℕ) (left : List (List ℕ) × List ℕ) : Type 0 where
@@ -44,7 +51,9 @@ ended s sound = ap (λ (o : Option Word). option_map_or is_end o false) sound.la
 blank_sound : Sound blank
 unfolding lines_at
 blank_sound = record {
-  ranges = record { band = refl; guard = omega arith; k = refl; services = refl; journal = refl; rows = refl; graph = refl };
+  ranges = record { version = refl; guard = omega arith; k = refl; services = refl; journal = refl; rows = refl; graph = refl };
+  band = omega arith;
+  no_version = λ l. refl;
   last = refl;
   no_formats = λ l. refl;
   no_nodes = λ l. refl;
@@ -148,29 +157,85 @@ at-fault bytes s number left l e at first is =
     ∙ subst (λ (r : Result Sheet Why). Steps s l number (drop 1 left.0) left.1 r) is
     (steps s l number (drop 1 left.0) left.1 (has_end s.last) at.sound refl)
 
-abbrev cut_line : List (List ℕ) → List ℕ → List (List ℕ) × List ℕ
-cut_line lines rest = ([] ∷ lines, rest)
+-- ---- how many lines there are
 
-few_by : (t : Bool) (b : ℕ) (lines : List (List ℕ)) (rest : List ℕ) (n : ℕ) → length lines ≤ n →
-    length (cond t (cut_line lines rest) (with_byte b lines rest)).0 ≤ n + 1
-few_by true b lines rest n l = omega arith
-few_by false b [] rest n l = omega arith
-few_by false b (line ∷ lines) rest n l = omega arith
+few_taken : {X : Type 0} (n : ℕ) (xs : List X) → length (take n xs) ≤ length xs
+few_taken zero xs = omega arith
+few_taken (suc n) [] = omega arith
+few_taken (suc n) (x ∷ xs) = let more = few_taken n xs in omega arith
 
-few_lines : (bytes : List ℕ) → length (whole_lines bytes).0 ≤ length bytes
-few_lines [] = omega arith
-few_lines (b ∷ bytes) =
-    let f = few_by (nat_eq b 10) b (whole_lines bytes).0 (whole_lines bytes).1 (length bytes) (few_lines bytes) in
+few_parts : (far version : ℕ) (band : Option Band) → BandSoFar far version band → length (parts_of band) ≤ 8
+few_parts far version None h = omega arith
+few_parts far version (Some band) h =
+    let a = and_parts (nat_le 1 (length band) && nat_le (length band) 8 && list_all is_units band && parts_ascend band)
+    (int_le ((span_of band).hi -ℤ (span_of band).lo) (pos 1023)) h.good in
+    let c = and_parts (nat_le 1 (length band) && nat_le (length band) 8 && list_all is_units band) (parts_ascend band) a.0 in
+    let d = and_parts (nat_le 1 (length band) && nat_le (length band) 8) (list_all is_units band) c.0 in
+    leb-true (length band) 8 (and_parts (nat_le 1 (length band)) (nat_le (length band) 8) d.0).1
+
+few_ends : (far : ℕ) → length (end_words far) ≤ 1
+few_ends far = by_test (nat_lt 10 far)
+  where
+    by_test : (b : Bool) → length (cond b ((codes "end" ∷ []) ∷ []) []) ≤ 1
+    by_test true = omega arith
+    by_test false = omega arith
+
+few_rows : (rows : List Format) → are_rows rows ≡ true → length rows ≤ 64
+few_rows rows h =
+    let p = and_parts (nat_le (length rows) 64 && list_all is_format rows) (differ (format_names rows)) h in
+    leb-true (length rows) 64 (and_parts (nat_le (length rows) 64) (list_all is_format rows) p.0).0
+
+-- at most 398 lines have been taken
+few_lines : (s : Sheet) → Sound s → length (lines_of s) ≤ 398
+unfolding lines_at
+few_lines s sound =
+    let far = rank s.last in
+    let t = s.setup in
+    let net = take far (number_words (codes "net") t.version ∷ []) in
+    let parts = map part_line_words (parts_of t.band) in
+    let limits = take (far - 2) (limit_words t) in
+    let formats = map format_line_words t.formats in
+    let nodes = map node_line_words t.network.nodes in
+    let fibres = map (fibre_line_words t.network.nodes) t.network.fibres in
+    let groups = map (group_line_words t.network.fibres) t.network.groups in
+    let graph = graph_parts t.network sound.ranges.graph in
+    let a = few_taken far (number_words (codes "net") t.version ∷ []) in
+    let b = few_parts far t.version t.band sound.band in
+    let c = few_taken (far - 2) (limit_words t) in
+    let d = few_rows t.formats sound.ranges.rows in
+    let e = few_ends far in
+    let f = length_mapped part_line_words (parts_of t.band) in
+    let g = length_mapped format_line_words t.formats in
+    let h = length_mapped node_line_words t.network.nodes in
+    let i = length_mapped (fibre_line_words t.network.nodes) t.network.fibres in
+    let j = length_mapped (group_line_words t.network.fibres) t.network.groups in
+    let k = graph.nodes_few in
+    let l = graph.fibres_few in
+    let m = graph.groups_few in
+    let n = length-append net parts in
+    let o = length-append (net ++ parts) limits in
+    let p = length-append (head_at far t) formats in
+    let q = length-append nodes fibres in
+    let r = length-append (nodes ++ fibres) groups in
+    let u = length-append (head_at far t ++ formats) (net_words t.network) in
+    let v = length-append ((head_at far t ++ formats) ++ net_words t.network) (end_words far) in
     omega arith
 
--- the number of a line is at most one more than that of bytes
+-- the number of a line
 pub at-few : (bytes : List ℕ) (s : Sheet) (number : ℕ) (left : List (List ℕ) × List ℕ) → IsAt bytes s number left →
-    number + length left.0 ≤ length bytes + 1
-at-few bytes s number left at = let f = few_lines bytes in let c = at.count in omega arith
+    number ≤ 399
+at-few bytes s number left at =
+    let c = at.count in
+    let f = few_lines s at.sound in
+    let t = ap length at.told in
+    let u = length-append (lines_of s) (map fields_of left.0) in
+    let v = length_mapped fields_of left.0 in
+    let w = length_mapped fields_of (whole_lines bytes).0 in
+    omega arith
 
 -- ---- the end of the text
 
-at_last : (bytes : List ℕ) (s : Sheet) (number : ℕ) (left : List (List ℕ) × List ℕ) → IsAt bytes s number left →
+pub at_last : (bytes : List ℕ) (s : Sheet) (number : ℕ) (left : List (List ℕ) × List ℕ) → IsAt bytes s number left →
     slice_get left.0 0 ≡ None →
     network_fault bytes ≡ option_map (λ why. (number, why)) (cond (has_end s.last) (then_some (nat_lt 0 (length left.1)) Rest) (Some Short))
 at_last bytes s number left at e =
@@ -205,30 +270,43 @@ respaced : (lines : List (List ℕ)) → map spaced (map fields_of lines) ≡ li
 respaced [] = refl
 respaced (l ∷ lines) = λ i. spaced-fields l i ∷ respaced lines i
 
-all_words : (s : Setup) → lines_at 11 s ≡ setup_words s
+four_then : (front : List Fields) (a b c d : Fields) →
+    front ++ (a ∷ b ∷ c ∷ d ∷ []) ≡ (((front ++ a ∷ []) ++ b ∷ []) ++ c ∷ []) ++ d ∷ []
+four_then front a b c d =
+    sym (append_assoc ((front ++ a ∷ []) ++ b ∷ []) (c ∷ []) (d ∷ [])
+    ∙ append_assoc (front ++ a ∷ []) (b ∷ []) (c ∷ d ∷ []) ∙ append_assoc front (a ∷ []) (b ∷ c ∷ d ∷ []))
+
+pub all_words : (s : SoFar) → s.version ≡ version_of (parts_of s.band) → lines_at 11 s ≡ setup_words (setup_told s)
 unfolding lines_at
-all_words s = refl
+all_words s e =
+    (λ i. (((number_words (codes "net") (e i) ∷ map part_line_words (parts_of s.band)) ++ limit_words s)
+    ++ map format_line_words s.formats) ++ net_words s.network ++ (codes "end" ∷ []) ∷ [])
+    ∙ ap (λ (v : List Fields). (v ++ map format_line_words s.formats) ++ net_words s.network ++ (codes "end" ∷ []) ∷ [])
+    (four_then (number_words (codes "net") (version_of (parts_of s.band)) ∷ map part_line_words (parts_of s.band))
+    (number_words (codes "guard") s.guard) (number_words (codes "k") s.k) (number_words (codes "services") s.services)
+    (number_words (codes "journal") s.journal))
 
 -- the text is that of the setup that was told
 pub at-end : (bytes : List ℕ) (s : Sheet) (number : ℕ) (lines : List (List ℕ)) (rest : List ℕ) →
     IsAt bytes s number (lines, rest) → slice_get lines 0 ≡ None → has_end s.last ≡ true →
-    has_nothing (drop 1 lines, rest) ≡ true → (network_fault bytes ≡ None) × IsNetworkTextOf bytes s.setup
+    has_nothing (drop 1 lines, rest) ≡ true → (network_fault bytes ≡ None) × IsNetworkTextOf bytes (setup_told s.setup)
 at-end bytes s number lines rest at e h k =
     let none = none_left lines e in
     let nothing = nothing_left rest (sym (ap (λ (v : List (List ℕ)). is_nil (drop 1 v) && is_nil rest) none) ∙ k) in
     let far = ended-far s.last h in
     let sound = at.sound in
     let all = whole_lines bytes in
-    let words : map fields_of all.0 ≡ setup_words s.setup =
+    let whole = whole-band (rank s.last) s.setup.version s.setup.band (omega arith) sound.ranges.version sound.band in
+    let words : map fields_of all.0 ≡ setup_words (setup_told s.setup) =
     at.told ∙ ap (λ (v : List (List ℕ)). lines_of s ++ map fields_of v) none ∙ append-nil (lines_of s)
-    ∙ ap (λ (r : ℕ). lines_at r s.setup) far ∙ all_words s.setup in
-    let own : all.0 ≡ map spaced (setup_words s.setup) = sym (respaced all.0) ∙ ap (map spaced) words in (
+    ∙ ap (λ (r : ℕ). lines_at r s.setup) far ∙ all_words s.setup whole.version_is in
+    let own : all.0 ≡ map spaced (setup_words (setup_told s.setup)) = sym (respaced all.0) ∙ ap (map spaced) words in (
       at_last bytes s number (lines, rest) at e
           ∙ (λ i. option_map (λ why. (number, why)) (cond (h i) (then_some (nat_lt 0 (length (nothing i))) Rest) (Some Short))),
       record {
-        in_range = setup-whole s.setup sound.ranges (sound.some_formats (omega arith)) (sound.some_nodes (omega arith));
-        is = sym (lines-text bytes) ∙ (λ i. text_of (own i, (at.rest ∙ nothing) i)) ∙ text-spaced (setup_words s.setup)
-            ∙ text_words s.setup;
+        in_range = setup-whole s.setup sound.ranges whole (sound.some_formats (omega arith)) (sound.some_nodes (omega arith));
+        is = sym (lines-text bytes) ∙ (λ i. text_of (own i, (at.rest ∙ nothing) i)) ∙ text-spaced (setup_words (setup_told s.setup))
+            ∙ text_words (setup_told s.setup);
       },
     )
 
@@ -269,6 +347,12 @@ told-rest bytes s number left next r at e h n k f =
 pub told-whole : (bytes : List ℕ) (s : Sheet) (number : ℕ) (left next : List (List ℕ) × List ℕ) →
     IsAt bytes s number left → None ≡ slice_get left.0 0 → has_end s.last ≡ true →
     next ≡ (drop 1 left.0, left.1) → has_nothing next ≡ true →
-    (network_fault bytes ≡ None) × IsNetworkTextOf bytes s.setup
+    (network_fault bytes ≡ None) × IsNetworkTextOf bytes (setup_told s.setup)
 told-whole bytes s number left next at e h n k =
     at-end bytes s number left.0 left.1 at (sym e) h (sym (ap has_nothing n) ∙ k)
+
+pub told-band : (bytes : List ℕ) (s : Sheet) (number : ℕ) (left : List (List ℕ) × List ℕ) → IsAt bytes s number left →
+    has_end s.last ≡ true → is_some s.setup.band ≡ true
+told-band bytes s number left at h =
+    let far = ended-far s.last h in
+    (whole-band (rank s.last) s.setup.version s.setup.band (omega arith) at.sound.ranges.version at.sound.band).some

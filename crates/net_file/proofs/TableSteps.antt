@@ -8,9 +8,8 @@ use Rattle.eon_model.specs.Names.{Name, is_name, has_name}
 use Rattle.eon_model.specs.Numerals.{is_within}
 use Rattle.eon_model.specs.Network.{Network}
 use Rattle.eon_model.specs.Formats.{Format}
-use Rattle.eon_model.specs.Legal.{Setup}
 use Rattle.eon_model.specs.NetworkText.{is_format}
-use Rattle.eon_model.specs.NetworkFault.{Word, Field, Fields, AName, ANumber, Node, fields_after, has_form, last_word, may_stand_after}
+use Rattle.eon_model.specs.NetworkFault.{Word, Field, Fields, AName, ANumber, Node, fields_after, has_form, last_word}
 use Rattle.eon_model.specs.NetworkFault as model
 use Rattle.reach_table.specs.Tables.{format_names, are_rows}
 use Rattle.reach_table.proofs.TableLaws.{push_row}
@@ -22,13 +21,14 @@ use Rattle.net_file.specs.declared.fault.Why.{Why}
 use Rattle.net_file.specs.declared.fault.Why.TheVariants as why
 use Rattle.net_file.specs.declared.line_words.FormatWords.{FormatWords}
 use Rattle.net_file.specs.LineWords.{ranged, format_words, node_words}
-use Rattle.net_file.specs.Steps.{Sheet, on_ok, unless_fault, told_by, with_formats, with_network, graph_whys, format_why, format_of, has_format_ranges, is_any, format_step, node_step, setup_step}
+use Rattle.net_file.specs.Steps.{SoFar, Sheet, on_ok, unless_fault, told_by, may_come, with_formats, with_network, graph_whys, format_why, format_of, has_format_ranges, is_any, format_step, node_step, setup_step}
 use Rattle.net_file.specs.Drafts.{rank, lines_of, Sound}
 use Rattle.net_file.proofs.FrontParts.{matches, form_of}
 use Rattle.net_file.proofs.NamedParts.{node_rest, node_reads, format_rest, format_reads}
-use Rattle.net_file.proofs.RankLaws.{may-far}
+use Rattle.net_file.proofs.RankLaws.{come-far}
 use Rattle.net_file.proofs.BehindParts.{behind-format, behind-node}
 use Rattle.net_file.proofs.LineGrowth.{last-word, format-grows, network-grows, node-grows}
+use Rattle.net_file.proofs.BandLines.{band-later}
 use Rattle.net_file.proofs.StepParts.{Takes, Follows, Grows, nested, line-takes, checked}
 
 -- fields that were read have the form of their kinds
@@ -41,12 +41,12 @@ formed {A = A} w kinds word rest spelled o a form e is after =
 
 -- ---- formats
 
-format_grown : (s : Sheet) → Sound s → may_stand_after s.last model.Format ≡ true → (f : FormatWords) →
+format_grown : (s : Sheet) → Sound s → may_come s model.Format ≡ true → (f : FormatWords) →
     is_name f.name ≡ true → has_format_ranges f ≡ true → format_why s.setup.formats f.name ≡ None →
     Grows s (codes "format" ∷ format_rest f)
     (told_by model.Format (with_formats s.setup (s.setup.formats ++ format_of f ∷ [])))
 format_grown s sound may f named within none =
-    let far = may-far s.last model.Format may in
+    let far = come-far s model.Format may in
     let r = sound.ranges in
     let rows = s.setup.formats in
     let more = rows ++ format_of f ∷ [] in
@@ -66,7 +66,7 @@ format_grown s sound may f named within none =
     record {
       sound = record {
         ranges = record {
-          band = r.band;
+          version = r.version;
           guard = r.guard;
           k = r.k;
           services = r.services;
@@ -74,6 +74,8 @@ format_grown s sound may f named within none =
           rows = (and_parts (are_rows more) (nat_le s.setup.guard 64) pushed).0;
           graph = r.graph;
         };
+        band = band-later (rank s.last) 7 s.setup.version s.setup.band (omega arith) (omega arith) sound.band;
+        no_version = λ l. absurd (omega arith);
         last = ap last_word lines ∙ last-word (lines_of s) (codes "format" ∷ format_rest f) model.Format refl;
         no_formats = λ l. absurd (omega arith);
         no_nodes = λ l. nodes;
@@ -85,7 +87,7 @@ format_grown s sound may f named within none =
       lines = lines;
     }
 
-pub format-takes : (s : Sheet) → Sound s → may_stand_after s.last model.Format ≡ true → (rest : Fields) →
+pub format-takes : (s : Sheet) → Sound s → may_come s model.Format ≡ true → (rest : Fields) →
     Takes s (codes "format" ∷ rest) (on_ok (λ setup. Ok (told_by model.Format setup)) (setup_step model.Format s.setup rest))
 unfolding setup_step format_step
 format-takes s sound may rest =
@@ -93,13 +95,13 @@ format-takes s sound may rest =
     let put = with_formats s.setup in
     let word = codes "format" in
     let check = λ (f : FormatWords). unless_fault (format_why rows f.name) (rows ++ format_of f ∷ []) in
-    subst (λ (v : Result Setup Why). Takes s (word ∷ rest) (on_ok (λ setup. Ok (told_by model.Format setup)) v))
+    subst (λ (v : Result SoFar Why). Takes s (word ∷ rest) (on_ok (λ setup. Ok (told_by model.Format setup)) v))
     (sym (nested (λ (rows : List Format). Ok (put rows)) check (ranged has_format_ranges (format_words rest))))
     (line-takes s model.Format word rest (format_words rest) has_format_ranges format_rest
-    (λ f. on_ok (λ (rows : List Format). Ok (put rows)) (check f)) sound refl may (format_reads word rest)
+    (λ f. on_ok (λ (rows : List Format). Ok (put rows)) (check f)) sound refl may (format_reads (lines_of s) word rest)
     (λ f e t is.
     let form = formed model.Format (AName ∷ ANumber 1 100000 ∷ ANumber 1 10000 ∷ []) word rest (format_rest f)
-    (format_words rest) f (format_reads word rest).form e is refl in
+    (format_words rest) f (format_reads (lines_of s) word rest).form e is refl in
     let named = (and_parts (is_name f.name) _ form).0 in
     subst (λ (v : Fields). Follows s model.Format (word ∷ v) (on_ok (λ (rows : List Format). Ok (put rows)) (check f)))
     (sym is)
@@ -114,11 +116,11 @@ node_free true out e = cc
 node_free false true e = cc
 node_free false false e = (refl, refl)
 
-node_grown : (s : Sheet) → Sound s → may_stand_after s.last Node ≡ true → (name : Name) → is_name name ≡ true →
+node_grown : (s : Sheet) → Sound s → may_come s Node ≡ true → (name : Name) → is_name name ≡ true →
     graph_whys (node_fault s.setup.network name) ≡ None →
     Grows s (codes "node" ∷ node_rest name) (told_by Node (with_network s.setup (with_node s.setup.network name)))
 node_grown s sound may name named none =
-    let far = may-far s.last Node may in
+    let far = come-far s Node may in
     let r = sound.ranges in
     let net = s.setup.network in
     let more = with_node net name in
@@ -132,7 +134,7 @@ node_grown s sound may name named none =
     record {
       sound = record {
         ranges = record {
-          band = r.band;
+          version = r.version;
           guard = r.guard;
           k = r.k;
           services = r.services;
@@ -140,6 +142,8 @@ node_grown s sound may name named none =
           rows = r.rows;
           graph = graph-with_node net name r.graph few named (not-false _ p.1);
         };
+        band = band-later (rank s.last) 8 s.setup.version s.setup.band (omega arith) (omega arith) sound.band;
+        no_version = λ l. absurd (omega arith);
         last = ap last_word lines ∙ last-word (lines_of s) (codes "node" ∷ name ∷ []) Node refl;
         no_formats = λ l. absurd (omega arith);
         no_nodes = λ l. absurd (omega arith);
@@ -151,7 +155,7 @@ node_grown s sound may name named none =
       lines = lines;
     }
 
-pub node-takes : (s : Sheet) → Sound s → may_stand_after s.last Node ≡ true → (rest : Fields) →
+pub node-takes : (s : Sheet) → Sound s → may_come s Node ≡ true → (rest : Fields) →
     Takes s (codes "node" ∷ rest) (on_ok (λ setup. Ok (told_by Node setup)) (setup_step Node s.setup rest))
 unfolding setup_step node_step
 node-takes s sound may rest =
@@ -159,12 +163,12 @@ node-takes s sound may rest =
     let put = with_network s.setup in
     let word = codes "node" in
     let check = λ (name : Name). unless_fault (graph_whys (node_fault net name)) (with_node net name) in
-    subst (λ (v : Result Setup Why). Takes s (word ∷ rest) (on_ok (λ setup. Ok (told_by Node setup)) v))
+    subst (λ (v : Result SoFar Why). Takes s (word ∷ rest) (on_ok (λ setup. Ok (told_by Node setup)) v))
     (sym (nested (λ (n : Network). Ok (put n)) check (ranged is_any (node_words rest))))
     (line-takes s Node word rest (node_words rest) is_any node_rest
-    (λ name. on_ok (λ (n : Network). Ok (put n)) (check name)) sound refl may (node_reads word rest)
+    (λ name. on_ok (λ (n : Network). Ok (put n)) (check name)) sound refl may (node_reads (lines_of s) word rest)
     (λ name e t is.
-    let form = formed Node (AName ∷ []) word rest (node_rest name) (node_words rest) name (node_reads word rest).form e is
+    let form = formed Node (AName ∷ []) word rest (node_rest name) (node_words rest) name (node_reads (lines_of s) word rest).form e is
     refl in
     let named = (and_parts (is_name name) true form).0 in
     subst (λ (v : Fields). Follows s Node (word ∷ v) (on_ok (λ (n : Network). Ok (put n)) (check name))) (sym is)

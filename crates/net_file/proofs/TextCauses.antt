@@ -1,20 +1,21 @@
 -- A line without a cause, as facts; lines without causes have no fault.
-use Rattle.std.proofs.Common.{◌≡◌, refl, sym, ◌∙◌, ap, subst, ℕ, ◌+◌, true, false, cond, not, List, [], ◌∷◌, ◌++◌, map, Option, Some, None, append_assoc}
+use Rattle.std.proofs.Common.{◌≡◌, refl, sym, ◌∙◌, ap, subst, ℕ, ◌+◌, true, false, cond, ◌&&◌, not, List, [], ◌∷◌, ◌++◌, map, Option, Some, None, append_assoc}
 use Rattle.std.specs.Prelude.{⊤}
 use Rattle.std.specs.Option.{option_map, option_map_or, option_or}
 use Rattle.std.proofs.lemmas.List.{append-nil}
 use Rattle.std.proofs.lemmas.Bool.{false≢true}
 use Rattle.eon_model.specs.Spelling.{spaced}
-use Rattle.eon_model.specs.NetworkFault.{Word, Net, Band, Guard, K, Services, Journal, Format, Node, Fibre, Group, End, Rest, Short, NoWord, Form, Range, Many, Order, Twice, Unknown, SelfEnd, Groups, Fields, word_spelled, field_at, may_follow, may_stand_after, last_word, is_end, has_ended, has_form, has_ranges, is_many, is_out_of_order, is_twice, has_unknown, ends_where_it_starts, is_in_a_ninth, first_why, cause_with, cause_of, first_fault}
+use Rattle.eon_model.specs.NetworkFault.{Word, Net, Band, Guard, K, Services, Journal, Format, Node, Fibre, Group, End, Rest, Short, NoWord, Form, Range, Many, Order, Twice, Unknown, SelfEnd, Groups, Fields, word_spelled, field_at, may_follow, may_stand_after, has_its_parts, last_word, is_end, has_ended, has_form, has_ranges, is_many, is_out_of_order, is_twice, has_unknown, ends_where_it_starts, is_in_a_ninth, first_why, cause_with, cause_of, first_fault}
 use Rattle.eon_model.proofs.OrderLaws.{AllOf}
-use Rattle.text_fields.proofs.SplitText.{Clean, fields-spaced}
+use Rattle.net_file.proofs.SplitText.{Clean, fields-spaced}
 
 -- the line passes each test after these lines
 pub record Passes (earlier : List Fields) (w : Word) (fields : Fields) : Type 0 where
   pub word : word_spelled (field_at fields 0) ≡ Some w
   pub stands : may_stand_after (last_word earlier) w ≡ true
+  pub parts : has_its_parts earlier w ≡ true
   pub form : has_form w fields ≡ true
-  pub ranges : has_ranges w fields ≡ true
+  pub ranges : has_ranges earlier w fields ≡ true
   pub few : is_many earlier w fields ≡ false
   pub ordered : is_out_of_order earlier w fields ≡ false
   pub once : is_twice earlier w fields ≡ false
@@ -27,7 +28,7 @@ pub no-cause : (earlier : List Fields) (w : Word) (fields : Fields) → Passes e
     cause_of earlier fields ≡ None
 no-cause earlier w fields p =
     ap (λ o. cause_with earlier o fields) p.word
-    ∙ (λ i. first_why ((not (p.stands i), NoWord) ∷ (not (p.form i), Form) ∷ (not (p.ranges i), Range)
+    ∙ (λ i. first_why ((not (p.stands i && p.parts i), NoWord) ∷ (not (p.form i), Form) ∷ (not (p.ranges i), Range)
     ∷ (p.few i, Many) ∷ (p.ordered i, Order) ∷ (p.once i, Twice) ∷ (p.known i, Unknown)
     ∷ (p.apart i, SelfEnd) ∷ (p.eighth i, Groups) ∷ []))
 

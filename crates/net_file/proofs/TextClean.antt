@@ -11,7 +11,7 @@ use Rattle.eon_model.specs.NetworkFault.{Word, Field, AName, ANumber, AUnit, Fie
 use Rattle.eon_model.proofs.OrderLaws.{AllOf}
 use Rattle.eon_model.proofs.SplitLaws.{lacks, lacks-where}
 use Rattle.eon_model.proofs.SpellingLaws.{name-lacks}
-use Rattle.text_fields.proofs.SplitText.{Clean}
+use Rattle.net_file.proofs.SplitText.{Clean}
 use Rattle.net_file.proofs.TextCauses.{Passes}
 
 -- ---- fields

@@ -1,98 +1,43 @@
--- The six lines at the front of a text pass.
-use Rattle.std.proofs.Common.{◌≡◌, refl, ◌∙◌, ℕ, ◌≤◌, ℤ, pos, negsuc, ◌-ℤ◌, ◌≤ℤ◌, Bool, true, ◌&&◌, List, [], ◌∷◌, arith}
-use Rattle.std.specs.Prelude.{codes, nat_le, int_le, length, map}
-use Rattle.std.specs.List.{list_all}
-use Rattle.std.specs.Fmt.{decimal, signed_decimal}
-use Rattle.std.proofs.lemmas.Bool.{and_parts, and_from, leb-true, le-leb}
-use Rattle.std.proofs.lemmas.Int.{ints}
-use Rattle.eon_model.specs.Grid.{is_units, is_band}
-use Rattle.eon_model.specs.Names.{differ}
+-- The lines at the front of a text pass.
+use Rattle.std.proofs.Common.{◌≡◌, refl, sym, ◌∙◌, ap, ℕ, ◌<◌, ◌≤◌, ◌^◌, Bool, true, false, cond, ◌&&◌, ◌||◌, not, List, [], ◌∷◌, ◌++◌, length, map, nat_le, nat_eq, Option, Some, arith}
+use Rattle.std.specs.Prelude.{codes}
+use Rattle.std.specs.Option.{option_and_then}
+use Rattle.std.specs.Fmt.{decimal}
+use Rattle.std.proofs.lemmas.Bool.{and_from, le-leb, leb-false}
+use Rattle.std.proofs.lemmas.List.{append-nil}
+use Rattle.eon_model.specs.Grid as grid
 use Rattle.eon_model.specs.Legal.{Setup}
-use Rattle.eon_model.specs.Formats.{Format}
-use Rattle.eon_model.specs.NetworkText.{is_format, is_table, is_network, is_setup}
+use Rattle.eon_model.specs.NetworkText.{version_of}
 use Rattle.eon_model.specs.Numerals.{is_within, number_value}
-use Rattle.eon_model.specs.NetworkFault.{Net, Band, Guard, K, Services, Journal, Fields}
-use Rattle.eon_model.proofs.GridLaws.{int_le-le, le-int_le}
-use Rattle.eon_model.proofs.SpellingLaws.{IsSmall, signed_value-signed_decimal}
-use Rattle.eon_model.proofs.NetworkTextLaws.{number_words}
-use Rattle.net_file.proofs.TextNumbers.{Spelled, number-spelled, signed-spelled}
-use Rattle.net_file.proofs.TextCauses.{Passes, AllPass}
-
--- ---- the parts of a setup
-
-pub record Ranges (s : Setup) : Type 0 where
-  pub lo : IsSmall s.band.lo
-  pub hi : IsSmall s.band.hi
-  pub low : negsuc 4095 ≤ℤ s.band.lo
-  pub rise : s.band.lo ≤ℤ s.band.hi
-  pub high : s.band.hi ≤ℤ pos 4095
-  pub wide : int_le (s.band.hi -ℤ s.band.lo) (pos 1023) ≡ true
-  pub guard : is_within 0 64 s.guard ≡ true
-  pub k : is_within 1 16 s.k ≡ true
-  pub services : is_within 1 4096 s.services ≡ true
-  pub journal : is_within 4096 67108864 s.journal ≡ true
-  pub some_formats : 1 ≤ length s.formats
-  pub few_formats : length s.formats ≤ 64
-  pub formats : list_all is_format s.formats ≡ true
-  pub formats_differ : differ (map (λ (f : Format). f.name) s.formats) ≡ true
-  pub network : is_network s.network ≡ true
-
-small : (a b : ℤ) → negsuc 4095 ≤ℤ a → a ≤ℤ b → b ≤ℤ pos 4095 → IsSmall a × IsSmall b
-small (pos a) (pos b) l m h = (omega (arith, ints), omega (arith, ints))
-small (pos a) (negsuc b) l m h = absurd (omega (arith, ints))
-small (negsuc a) (pos b) l m h = (omega (arith, ints), omega (arith, ints))
-small (negsuc a) (negsuc b) l m h = (omega (arith, ints), omega (arith, ints))
-
-pub setup-ranges : (s : Setup) → is_setup s ≡ true → Ranges s
-setup-ranges s h =
-    let a = and_parts (is_band s.band && nat_le s.guard 64 && is_within 1 16 s.k
-    && is_within 1 4096 s.services && is_within 4096 67108864 s.journal && is_table s.formats) (is_network s.network) h in
-    let b = and_parts (is_band s.band && nat_le s.guard 64 && is_within 1 16 s.k
-    && is_within 1 4096 s.services && is_within 4096 67108864 s.journal) (is_table s.formats) a.0 in
-    let c = and_parts (is_band s.band && nat_le s.guard 64 && is_within 1 16 s.k
-    && is_within 1 4096 s.services) (is_within 4096 67108864 s.journal) b.0 in
-    let d = and_parts (is_band s.band && nat_le s.guard 64 && is_within 1 16 s.k) (is_within 1 4096 s.services) c.0 in
-    let e = and_parts (is_band s.band && nat_le s.guard 64) (is_within 1 16 s.k) d.0 in
-    let f = and_parts (is_band s.band) (nat_le s.guard 64) e.0 in
-    let g = and_parts (is_units s.band) (int_le (s.band.hi -ℤ s.band.lo) (pos 1023)) f.0 in
-    let u = and_parts (int_le (negsuc 4095) s.band.lo && int_le s.band.lo s.band.hi) (int_le s.band.hi (pos 4095)) g.0 in
-    let v = and_parts (int_le (negsuc 4095) s.band.lo) (int_le s.band.lo s.band.hi) u.0 in
-    let t = and_parts (is_within 1 64 (length s.formats) && list_all is_format s.formats)
-    (differ (map (λ (f : Format). f.name) s.formats)) b.1 in
-    let w = and_parts (is_within 1 64 (length s.formats)) (list_all is_format s.formats) t.0 in
-    let x = and_parts (nat_le 1 (length s.formats)) (nat_le (length s.formats) 64) w.0 in
-    let low = int_le-le (negsuc 4095) s.band.lo v.0 in
-    let rise = int_le-le s.band.lo s.band.hi v.1 in
-    let high = int_le-le s.band.hi (pos 4095) u.1 in
-    let ends = small s.band.lo s.band.hi low rise high in
-    record {
-      lo = ends.0;
-      hi = ends.1;
-      low = low;
-      rise = rise;
-      high = high;
-      wide = g.1;
-      guard = and_from (nat_le 0 s.guard) (nat_le s.guard 64) (le-leb 0 s.guard (omega arith)) f.1;
-      k = e.1;
-      services = d.1;
-      journal = c.1;
-      some_formats = leb-true 1 (length s.formats) x.0;
-      few_formats = leb-true (length s.formats) 64 x.1;
-      formats = w.1;
-      formats_differ = t.1;
-      network = a.1;
-    }
+use Rattle.eon_model.specs.NetworkFault as fault
+use Rattle.eon_model.specs.NetworkFault.{Net, Band, Guard, K, Services, Journal, Word, Fields, has_word, word_spelled, field_at, last_word, may_stand_after, may_follow, lines_with, has_parts, band_lines}
+use Rattle.eon_model.proofs.SetupFacts.{SetupFacts}
+use Rattle.eon_model.proofs.NetworkTextLaws.{number_words, band_words}
+use Rattle.net_file.proofs.TextNumbers.{Spelled, number-spelled}
+use Rattle.net_file.proofs.TextCauses.{Passes, AllPass, AllPass-append}
+use Rattle.net_file.proofs.TextLists.{all-with, none-with, with-right, with-neither}
+use Rattle.net_file.proofs.TextLast.{last-push, stands-behind, each-passes}
+use Rattle.net_file.proofs.TextNetworks.{not_nil}
+use Rattle.net_file.proofs.TextBand.{net_line, version-told, one-version, part-passes}
 
 -- ---- the lines
 
-abbrev pub band_words : Setup → Fields
-band_words s = codes "band" ∷ signed_decimal s.band.lo ∷ signed_decimal s.band.hi ∷ []
+-- the lines of the version and the band
+abbrev pub with_band : grid.Band → List Fields
+with_band band = (net_line band ∷ []) ++ map band_words band
 
+abbrev pub with_guard : Setup → List Fields
+with_guard s = with_band s.band ++ number_words (codes "guard") s.guard ∷ []
+
+abbrev pub with_k : Setup → List Fields
+with_k s = with_guard s ++ number_words (codes "k") s.k ∷ []
+
+abbrev pub with_services : Setup → List Fields
+with_services s = with_k s ++ number_words (codes "services") s.services ∷ []
+
+-- the lines before the formats
 abbrev pub front : Setup → List Fields
-front s =
-    number_words (codes "net") 1 ∷ band_words s ∷ number_words (codes "guard") s.guard
-    ∷ number_words (codes "k") s.k ∷ number_words (codes "services") s.services
-    ∷ number_words (codes "journal") s.journal ∷ []
+front s = with_services s ++ number_words (codes "journal") s.journal ∷ []
 
 last_true : (b : Bool) → b ≡ true → (b && true) ≡ true
 last_true b h = and_from b true h refl
@@ -100,10 +45,45 @@ last_true b h = and_from b true h refl
 one_number : {least most n : ℕ} → Spelled least most n → ((is_within least most (number_value (decimal n)) && true) && true) ≡ true
 one_number s = last_true _ (last_true _ s.ranged)
 
-net_passes : Passes [] Net (number_words (codes "net") 1)
-net_passes = let n = number-spelled 1 1 1 (omega arith) refl in record {
+-- ---- lines of one kind among them
+
+module _ (s : Setup) (word : List ℕ) (net : lines_with (net_line s.band ∷ []) word ≡ []) where
+  pub none-banded : ((p : grid.Units) → has_word word (band_words p) ≡ false) → lines_with (with_band s.band) word ≡ []
+  none-banded band = with-neither word (net_line s.band ∷ []) (map band_words s.band) net (none-with word band_words band s.band)
+
+  pub none-more : (lines : List Fields) (line : Fields) → lines_with lines word ≡ [] → lines_with (line ∷ []) word ≡ [] →
+      lines_with (lines ++ line ∷ []) word ≡ []
+  none-more lines line e f = with-neither word lines (line ∷ []) e f
+
+-- lines of a kind that is none of these
+pub front-none : (s : Setup) (word : List ℕ) → lines_with (net_line s.band ∷ []) word ≡ [] →
+    ((p : grid.Units) → has_word word (band_words p) ≡ false) →
+    lines_with (number_words (codes "guard") s.guard ∷ []) word ≡ [] →
+    lines_with (number_words (codes "k") s.k ∷ []) word ≡ [] →
+    lines_with (number_words (codes "services") s.services ∷ []) word ≡ [] →
+    lines_with (number_words (codes "journal") s.journal ∷ []) word ≡ [] → lines_with (front s) word ≡ []
+front-none s word net band guard k services journal =
+    none-more s word net (with_services s) _ (none-more s word net (with_k s) _ (none-more s word net (with_guard s) _
+    (none-more s word net (with_band s.band) _ (none-banded s word net band) guard) k) services) journal
+
+-- the last of them
+pub front-last : (s : Setup) → last_word (front s) ≡ Some Journal
+front-last s = ap (λ (o : Option Fields). option_and_then (λ fields. word_spelled (field_at fields 0)) o)
+    (last-push (with_services s) (number_words (codes "journal") s.journal))
+
+-- ---- one line after another
+
+after_line : (lines : List Fields) (line : Fields) (last w : Word) → word_spelled (field_at line 0) ≡ Some last →
+    may_follow last w ≡ true → may_stand_after (last_word (lines ++ line ∷ [])) w ≡ true
+after_line lines line last w e h =
+    ap (λ (o : Option Fields). may_stand_after (option_and_then (λ fields. word_spelled (field_at fields 0)) o) w)
+    (last-push lines line) ∙ ap (λ (o : Option Word). may_stand_after o w) e ∙ h
+
+net_passes : (band : grid.Band) → is_within 1 2 (version_of band) ≡ true → Passes [] Net (net_line band)
+net_passes band h = let n = number-spelled 1 2 (version_of band) (omega arith) h in record {
   word = refl;
   stands = refl;
+  parts = refl;
   form = last_true _ n.spelled;
   ranges = one_number n;
   few = refl;
@@ -114,43 +94,47 @@ net_passes = let n = number-spelled 1 1 1 (omega arith) refl in record {
   eighth = refl;
 }
 
-band_passes : (s : Setup) → Ranges s → Passes (number_words (codes "net") 1 ∷ []) Band (band_words s)
-band_passes s r =
-    let lo = signed_value-signed_decimal s.band.lo r.lo in
-    let hi = signed_value-signed_decimal s.band.hi r.hi in
-    let low = r.low in
-    let rise = r.rise in
-    let high = r.high in
-    let a : (int_le (negsuc 4095) s.band.lo && int_le s.band.lo (pos 4095)) ≡ true =
-    and_from _ _ (le-int_le (negsuc 4095) s.band.lo low) (le-int_le s.band.lo (pos 4095) (omega (arith, ints))) in
-    let b : (int_le (negsuc 4095) s.band.hi && int_le s.band.hi (pos 4095)) ≡ true =
-    and_from _ _ (le-int_le (negsuc 4095) s.band.hi (omega (arith, ints))) (le-int_le s.band.hi (pos 4095) high) in
-    let c : (int_le s.band.lo s.band.hi && int_le (s.band.hi -ℤ s.band.lo) (pos 1023)) ≡ true =
-    and_from _ _ (le-int_le s.band.lo s.band.hi rise) r.wide in
-    record {
-      word = refl;
-      stands = refl;
-      form = and_from _ _ (signed-spelled s.band.lo r.lo) (last_true _ (signed-spelled s.band.hi r.hi));
-      ranges = and_from _ _
-          (and_from _ _ ((λ i. int_le (negsuc 4095) (lo i) && int_le (lo i) (pos 4095)) ∙ a)
-          (last_true _ ((λ i. int_le (negsuc 4095) (hi i) && int_le (hi i) (pos 4095)) ∙ b)))
-          ((λ i. int_le (lo i) (hi i) && int_le (hi i -ℤ lo i) (pos 1023)) ∙ c);
-      few = refl;
-      ordered = refl;
-      once = refl;
-      known = refl;
-      apart = refl;
-      eighth = refl;
-    }
+version_within : (band : grid.Band) → is_within 1 2 (version_of band) ≡ true
+version_within band = by_test (nat_le (length band) 1)
+  where
+    by_test : (b : Bool) → is_within 1 2 (cond {A = ℕ} b 1 2) ≡ true
+    by_test true = refl
+    by_test false = refl
 
-guard_passes : (s : Setup) → Ranges s →
-    Passes (number_words (codes "net") 1 ∷ band_words s ∷ []) Guard (number_words (codes "guard") s.guard)
-guard_passes s r = let n = number-spelled 0 64 s.guard (omega arith) r.guard in record {
+-- behind one part in version 1, and behind two or more in version 2
+guard_parts : (band : grid.Band) → fault.has_its_parts (with_band band) Guard ≡ true
+guard_parts band = by_test (nat_le 2 (length band)) refl
+  where
+    lines : band_lines (with_band band) ≡ map band_words band
+    lines = with-right (codes "band") (net_line band ∷ []) (map band_words band) (map band_words band) refl
+        (all-with (codes "band") band_words (λ x. refl) band)
+
+    long : {X Y : Type 0} (f : X → Y) (xs : List X) → length (map f xs) ≡ length xs
+    long f [] = refl
+    long f (x ∷ xs) = let more = long f xs in omega arith
+
+    by_test : (b : Bool) → nat_le 2 (length band) ≡ b →
+        (not (has_parts (with_band band)) || nat_le 2 (length (band_lines (with_band band)))) ≡ true
+    by_test true h =
+        (λ i. not (has_parts (with_band band)) || nat_le 2 (length (lines i)))
+        ∙ ap (λ n. not (has_parts (with_band band)) || nat_le 2 n) (long band_words band)
+        ∙ ap (λ b. not (has_parts (with_band band)) || b) h ∙ any_true (not (has_parts (with_band band)))
+      where
+        any_true : (b : Bool) → (b || true) ≡ true
+        any_true true = refl
+        any_true false = refl
+    by_test false h =
+        ap (λ b. not b || nat_le 2 (length (band_lines (with_band band))))
+        (version-told band (map band_words band) ∙ one-version band (let l = leb-false 2 (length band) h in omega arith))
+
+guard_passes : (s : Setup) → SetupFacts s → Passes (with_band s.band) Guard (number_words (codes "guard") s.guard)
+guard_passes s r = let n = number-spelled 0 64 s.guard (omega arith) (and_from (nat_le 0 s.guard) (nat_le s.guard 64) (le-leb 0 s.guard (omega arith)) r.guard_test) in record {
   word = refl;
-  stands = refl;
+  stands = stands-behind band_words Band (λ x. refl) Guard (net_line s.band ∷ []) s.band (not_nil _ s.band r.some_parts) refl;
+  parts = guard_parts s.band;
   form = last_true _ n.spelled;
   ranges = one_number n;
-  few = refl;
+  few = ap (λ (v : List Fields). nat_le 1 (length v)) (none-banded s (codes "guard") refl (λ x. refl));
   ordered = refl;
   once = refl;
   known = refl;
@@ -158,15 +142,14 @@ guard_passes s r = let n = number-spelled 0 64 s.guard (omega arith) r.guard in 
   eighth = refl;
 }
 
-k_passes : (s : Setup) → Ranges s →
-    Passes (number_words (codes "net") 1 ∷ band_words s ∷ number_words (codes "guard") s.guard ∷ []) K
-    (number_words (codes "k") s.k)
-k_passes s r = let n = number-spelled 1 16 s.k (omega arith) r.k in record {
+k_passes : (s : Setup) → SetupFacts s → Passes (with_guard s) K (number_words (codes "k") s.k)
+k_passes s r = let n = number-spelled 1 16 s.k (omega arith) r.k_test in record {
   word = refl;
-  stands = refl;
+  stands = after_line (with_band s.band) (number_words (codes "guard") s.guard) Guard K refl refl;
+  parts = refl;
   form = last_true _ n.spelled;
   ranges = one_number n;
-  few = refl;
+  few = ap (λ (v : List Fields). nat_le 1 (length v)) (none-more s (codes "k") refl (with_band s.band) _ (none-banded s (codes "k") refl (λ x. refl)) refl);
   ordered = refl;
   once = refl;
   known = refl;
@@ -174,15 +157,14 @@ k_passes s r = let n = number-spelled 1 16 s.k (omega arith) r.k in record {
   eighth = refl;
 }
 
-services_passes : (s : Setup) → Ranges s →
-    Passes (number_words (codes "net") 1 ∷ band_words s ∷ number_words (codes "guard") s.guard
-    ∷ number_words (codes "k") s.k ∷ []) Services (number_words (codes "services") s.services)
-services_passes s r = let n = number-spelled 1 4096 s.services (omega arith) r.services in record {
+services_passes : (s : Setup) → SetupFacts s → Passes (with_k s) Services (number_words (codes "services") s.services)
+services_passes s r = let n = number-spelled 1 4096 s.services (omega arith) r.services_test in record {
   word = refl;
-  stands = refl;
+  stands = after_line (with_guard s) (number_words (codes "k") s.k) K Services refl refl;
+  parts = refl;
   form = last_true _ n.spelled;
   ranges = one_number n;
-  few = refl;
+  few = ap (λ (v : List Fields). nat_le 1 (length v)) (none-more s (codes "services") refl (with_guard s) _ (none-more s (codes "services") refl (with_band s.band) _ (none-banded s (codes "services") refl (λ x. refl)) refl) refl);
   ordered = refl;
   once = refl;
   known = refl;
@@ -190,16 +172,14 @@ services_passes s r = let n = number-spelled 1 4096 s.services (omega arith) r.s
   eighth = refl;
 }
 
-journal_passes : (s : Setup) → Ranges s →
-    Passes (number_words (codes "net") 1 ∷ band_words s ∷ number_words (codes "guard") s.guard
-    ∷ number_words (codes "k") s.k ∷ number_words (codes "services") s.services ∷ []) Journal
-    (number_words (codes "journal") s.journal)
-journal_passes s r = let n = number-spelled 4096 67108864 s.journal (omega arith) r.journal in record {
+journal_passes : (s : Setup) → SetupFacts s → Passes (with_services s) Journal (number_words (codes "journal") s.journal)
+journal_passes s r = let n = number-spelled 4096 67108864 s.journal (omega arith) r.journal_test in record {
   word = refl;
-  stands = refl;
+  stands = after_line (with_k s) (number_words (codes "services") s.services) Services Journal refl refl;
+  parts = refl;
   form = last_true _ n.spelled;
   ranges = one_number n;
-  few = refl;
+  few = ap (λ (v : List Fields). nat_le 1 (length v)) (none-more s (codes "journal") refl (with_k s) _ (none-more s (codes "journal") refl (with_guard s) _ (none-more s (codes "journal") refl (with_band s.band) _ (none-banded s (codes "journal") refl (λ x. refl)) refl) refl) refl);
   ordered = refl;
   once = refl;
   known = refl;
@@ -207,17 +187,17 @@ journal_passes s r = let n = number-spelled 4096 67108864 s.journal (omega arith
   eighth = refl;
 }
 
-pub front-passes : (s : Setup) → Ranges s → AllPass [] (front s)
-front-passes s r = (
-  (Net, net_passes),
-  (
-    (Band, band_passes s r),
-    (
-      (Guard, guard_passes s r),
-      (
-        (K, k_passes s r),
-        ((Services, services_passes s r), ((Journal, journal_passes s r), tt)),
-      ),
-    ),
-  ),
-)
+band_passes : (s : Setup) → SetupFacts s → AllPass (net_line s.band ∷ []) (map band_words s.band)
+band_passes s r = each-passes band_words (net_line s.band ∷ []) s.band λ before part after e.
+    (Band, part-passes s.band before part after e r.band r.few_parts r.wide)
+
+pub front-passes : (s : Setup) → SetupFacts s → AllPass [] (front s)
+front-passes s r =
+    AllPass-append [] (with_services s) (number_words (codes "journal") s.journal ∷ [])
+    (AllPass-append [] (with_k s) (number_words (codes "services") s.services ∷ [])
+    (AllPass-append [] (with_guard s) (number_words (codes "k") s.k ∷ [])
+    (AllPass-append [] (with_band s.band) (number_words (codes "guard") s.guard ∷ [])
+    (AllPass-append [] (net_line s.band ∷ []) (map band_words s.band)
+    ((Net, net_passes s.band (version_within s.band)), tt) (band_passes s r))
+    ((Guard, guard_passes s r), tt)) ((K, k_passes s r), tt)) ((Services, services_passes s r), tt))
+    ((Journal, journal_passes s r), tt)

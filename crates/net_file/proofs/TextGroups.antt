@@ -101,9 +101,9 @@ names_ranged zero names = refl
 names_ranged (suc n) [] = refl
 names_ranged (suc n) (m ∷ names) = names_ranged n names
 
-group_ranges : (name : Name) (members : List Name) → fault.has_ranges fault.Group (codes "group" ∷ name ∷ members) ≡ true
-group_ranges name [] = refl
-group_ranges name (m ∷ ms) =
+group_ranges : (earlier : List Fields) (name : Name) (members : List Name) → fault.has_ranges earlier fault.Group (codes "group" ∷ name ∷ members) ≡ true
+group_ranges earlier name [] = refl
+group_ranges earlier name (m ∷ ms) =
     and_from _ true (names_ranged (length (codes "group" ∷ name ∷ m ∷ ms) - 1 - 2) ms) refl
 
 -- ---- fibres by name
@@ -187,8 +187,9 @@ group-passes earlier nodes fs all before g after e l names fs_up ok up few stand
     record {
       word = refl;
       stands = stands;
+      parts = refl;
       form = group_form g.name members d.0 (members_named fs g.fibres names b.1) (omega arith);
-      ranges = group_ranges g.name members;
+      ranges = group_ranges earlier g.name members;
       few = ap (λ (v : List Fields). nat_le 128 (length v)) lines ∙ room (group_words fs) 128 before g after all e l;
       ordered = or_from _ (not (ascend members))
           (rises (group_words fs) (λ (x : Group). x.name) (λ x. refl) before g after all e up

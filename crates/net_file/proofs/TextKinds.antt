@@ -17,9 +17,8 @@ use Rattle.eon_model.proofs.NumberLaws.{same-name}
 use Rattle.eon_model.proofs.NamePlaceLaws.{number_of-name_at, name_at-passes}
 use Rattle.eon_model.proofs.NetworkTextLaws.{format_words, node_words, fibre_words}
 use Rattle.eon_model.proofs.Members.{all_pairs-map}
-use Rattle.text_fields.proofs.Parts.{some_is}
 use Rattle.net_file.proofs.TextCauses.{Passes}
-use Rattle.net_file.proofs.TextNumbers.{number-spelled}
+use Rattle.net_file.proofs.TextNumbers.{some_is, number-spelled}
 use Rattle.net_file.proofs.TextLists.{all-at, pairs-before, shorter}
 use Rattle.net_file.proofs.TextLast.{above-last}
 
@@ -81,6 +80,7 @@ format-passes earlier all before f after e l ok apart stands lines =
     record {
       word = refl;
       stands = stands;
+      parts = refl;
       form = and_from (is_name f.name) _ b.0 (and_from (is_number (decimal f.reach)) _ reach.spelled
           (and_from (is_number (decimal f.per)) true per.spelled refl));
       ranges = and_from _ true (and_from (is_within 1 100000 (number_value (decimal f.reach))) _ reach.ranged
@@ -106,6 +106,7 @@ node-passes earlier all before name after e l ok up stands lines =
     record {
       word = refl;
       stands = stands;
+      parts = refl;
       form = and_from (is_name name) true here refl;
       ranges = refl;
       few = ap (λ (v : List Fields). nat_le 64 (length v)) lines ∙ room node_words 64 before name after all e l;
@@ -161,6 +162,7 @@ fibre-passes earlier nodes all before f after e l names nodes_up ok up stands no
     record {
       word = refl;
       stands = stands;
+      parts = refl;
       form = and_from (is_name f.name) _ d.0
           (and_from (is_name (name_at nodes f.a)) _ (name_at-passes is_name nodes f.a names la)
           (and_from (is_name (name_at nodes f.b)) _ (name_at-passes is_name nodes f.b names lb)

@@ -1,5 +1,5 @@
 -- Numbers of a setup are spelled well, and their spelling is in their range.
-use Rattle.std.proofs.Common.{◌≡◌, refl, ◌∙◌, ap, ℕ, ◌<◌, ◌^◌, ℤ, pos, negsuc, true, ◌&&◌, nat_lt, arith}
+use Rattle.std.proofs.Common.{◌≡◌, refl, ◌∙◌, ap, ℕ, ◌<◌, ◌^◌, ℤ, pos, negsuc, Bool, true, false, cond, Some, None, ◌&&◌, nat_lt, arith}
 use Rattle.std.specs.Prelude.{nat_abs}
 use Rattle.std.specs.Fmt.{decimal, signed_decimal}
 use Rattle.std.proofs.lemmas.Bool.{and_parts}
@@ -7,7 +7,13 @@ use Rattle.eon_model.specs.Numerals.{is_within, is_number, number_value, is_sign
 use Rattle.eon_model.proofs.SpellingLaws.{IsSmall, number_value-decimal}
 use Rattle.eon_model.proofs.NetworkReadLaws.{within_small}
 use Rattle.eon_base.proofs.OneSpellingLaws.{decimal_formed, one_signed_spelling}
-use Rattle.text_fields.proofs.Parts.{chosen}
+
+pub some_is : {A : Type 0} (x y : A) → Some x ≡ Some y → x ≡ y
+some_is x y e = cc
+
+chosen : {A : Type 0} (b : Bool) (x y : A) → cond b (Some x) None ≡ Some y → (b ≡ true) × (x ≡ y)
+chosen true x y e = (refl, some_is x y e)
+chosen false x y e = cc
 
 -- a number in its range is spelled well, and the spelling is in the range
 pub record Spelled (least most n : ℕ) : Type 0 where

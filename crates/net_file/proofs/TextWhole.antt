@@ -15,14 +15,15 @@ use Rattle.eon_model.proofs.OrderLaws.{AllOf}
 use Rattle.eon_model.proofs.Members.{map-itself}
 use Rattle.eon_model.proofs.SetupLaws.{NetworkParts, network-parts}
 use Rattle.eon_model.proofs.NetworkTextLaws.{format_words, node_words, fibre_words, group_words, network_words, setup_words, text_words}
-use Rattle.text_fields.proofs.SplitText.{Clean, lines-found}
+use Rattle.net_file.proofs.SplitText.{Clean, lines-found}
 use Rattle.net_file.specs.TextLaws.{TextsHaveNoFault}
 use Rattle.net_file.proofs.TextNetworks.{not_nil, network_few, names_of, some_fibres}
 use Rattle.net_file.proofs.TextCauses.{Passes, AllPass, AllPass-append, no-fault}
 use Rattle.net_file.proofs.TextClean.{passes-clean}
 use Rattle.net_file.proofs.TextLists.{all-at, all-with, none-with, with-both, with-neither, with-right}
 use Rattle.net_file.proofs.TextLast.{stands-behind, last-push, each-passes}
-use Rattle.net_file.proofs.TextFront.{Ranges, setup-ranges, front, front-passes}
+use Rattle.net_file.proofs.TextFront.{front, front-none, front-last, front-passes}
+use Rattle.eon_model.proofs.SetupFacts.{SetupFacts, setup-facts}
 use Rattle.net_file.proofs.TextKinds.{format-passes, node-passes, fibre-passes}
 use Rattle.net_file.proofs.TextGroups.{group-passes}
 
@@ -43,7 +44,7 @@ with_groups s = with_fibres s ++ map (group_words s.network.fibres) s.network.gr
 abbrev end_line : Fields
 end_line = codes "end" ∷ []
 
-module _ (s : Setup) (r : Ranges s) (p : NetworkParts s.network) where
+module _ (s : Setup) (r : SetupFacts s) (p : NetworkParts s.network) where
   abbrev nodes : List Name
   nodes = s.network.nodes
 
@@ -59,8 +60,10 @@ module _ (s : Setup) (r : Ranges s) (p : NetworkParts s.network) where
     fault.Format,
     format-passes (front s ++ map format_words before) s.formats before f after e r.few_formats r.formats
         r.formats_differ
-        (stands-behind format_words fault.Format (λ x. refl) fault.Format (front s) before (λ _. refl) refl)
-        (with-right (codes "format") (front s) (map format_words before) (map format_words before) refl
+        (stands-behind format_words fault.Format (λ x. refl) fault.Format (front s) before
+        (λ _. ap (λ (o : Option Word). may_stand_after o fault.Format) (front-last s)) refl)
+        (with-right (codes "format") (front s) (map format_words before) (map format_words before)
+        (front-none s (codes "format") refl (λ x. refl) refl refl refl refl)
         (all-with (codes "format") format_words (λ x. refl) before)),
   )
 
@@ -73,7 +76,7 @@ module _ (s : Setup) (r : Ranges s) (p : NetworkParts s.network) where
         (λ _. stands-behind format_words fault.Format (λ x. refl) fault.Node (front s) s.formats
         (not_nil _ s.formats r.some_formats) refl) refl)
         (with-right (codes "node") (with_formats s) (map node_words before) (map node_words before)
-        (formats_none (codes "node") (λ x. refl) refl) (all-with (codes "node") node_words (λ x. refl) before)),
+        (formats_none (codes "node") (λ x. refl) (front-none s (codes "node") refl (λ x. refl) refl refl refl refl)) (all-with (codes "node") node_words (λ x. refl) before)),
   )
 
   -- after nodes
@@ -83,7 +86,7 @@ module _ (s : Setup) (r : Ranges s) (p : NetworkParts s.network) where
 
   node_lines : lines_with (with_nodes s) (codes "node") ≡ map node_words nodes
   node_lines = with-right (codes "node") (with_formats s) (map node_words nodes) (map node_words nodes)
-      (formats_none (codes "node") (λ x. refl) refl) (all-with (codes "node") node_words (λ x. refl) nodes)
+      (formats_none (codes "node") (λ x. refl) (front-none s (codes "node") refl (λ x. refl) refl refl refl refl)) (all-with (codes "node") node_words (λ x. refl) nodes)
 
   nodes_none : (word : List ℕ) → ((f : Format) → fault.has_word word (format_words f) ≡ false) →
       ((n : Name) → fault.has_word word (node_words n) ≡ false) →
@@ -105,7 +108,7 @@ module _ (s : Setup) (r : Ranges s) (p : NetworkParts s.network) where
         (with-both (codes "node") (with_nodes s) (map (fibre_words nodes) before) (map node_words nodes) [] node_lines
         (none-with (codes "node") (fibre_words nodes) (λ x. refl) before) ∙ keeps_nothing (map node_words nodes))
         (with-right (codes "fibre") (with_nodes s) (map (fibre_words nodes) before) (map (fibre_words nodes) before)
-        (nodes_none (codes "fibre") (λ x. refl) (λ x. refl) refl)
+        (nodes_none (codes "fibre") (λ x. refl) (λ x. refl) (front-none s (codes "fibre") refl (λ x. refl) refl refl refl refl))
         (all-with (codes "fibre") (fibre_words nodes) (λ x. refl) before)),
   )
 
@@ -117,7 +120,7 @@ module _ (s : Setup) (r : Ranges s) (p : NetworkParts s.network) where
 
   fibre_lines : lines_with (with_fibres s) (codes "fibre") ≡ map (fibre_words nodes) fibres
   fibre_lines = with-right (codes "fibre") (with_nodes s) (map (fibre_words nodes) fibres) (map (fibre_words nodes) fibres)
-      (nodes_none (codes "fibre") (λ x. refl) (λ x. refl) refl)
+      (nodes_none (codes "fibre") (λ x. refl) (λ x. refl) (front-none s (codes "fibre") refl (λ x. refl) refl refl refl refl))
       (all-with (codes "fibre") (fibre_words nodes) (λ x. refl) fibres)
 
   groups_pass : list_all (is_in_few_groups s.network.groups) (range_with_len 0 (length fibres)) ≡ true →
@@ -135,7 +138,7 @@ module _ (s : Setup) (r : Ranges s) (p : NetworkParts s.network) where
         ∙ keeps_nothing (map (fibre_words nodes) fibres))
         (with-right (codes "group") (with_fibres s) (map (group_words fibres) before) (map (group_words fibres) before)
         (with-neither (codes "group") (with_nodes s) (map (fibre_words nodes) fibres)
-        (nodes_none (codes "group") (λ x. refl) (λ x. refl) refl)
+        (nodes_none (codes "group") (λ x. refl) (λ x. refl) (front-none s (codes "group") refl (λ x. refl) refl refl refl refl))
         (none-with (codes "group") (fibre_words nodes) (λ x. refl) fibres))
         (all-with (codes "group") (group_words fibres) (λ x. refl) before)),
   )
@@ -143,7 +146,7 @@ module _ (s : Setup) (r : Ranges s) (p : NetworkParts s.network) where
   no_end : lines_with (with_groups s) (codes "end") ≡ []
   no_end = with-neither (codes "end") (with_fibres s) (map (group_words fibres) s.network.groups)
       (with-neither (codes "end") (with_nodes s) (map (fibre_words nodes) fibres)
-      (nodes_none (codes "end") (λ x. refl) (λ x. refl) refl)
+      (nodes_none (codes "end") (λ x. refl) (λ x. refl) (front-none s (codes "end") refl (λ x. refl) refl refl refl refl))
       (none-with (codes "end") (fibre_words nodes) (λ x. refl) fibres))
       (none-with (codes "end") (group_words fibres) (λ x. refl) s.network.groups)
 
@@ -152,6 +155,7 @@ module _ (s : Setup) (r : Ranges s) (p : NetworkParts s.network) where
     word = refl;
     stands = stands-behind (group_words fibres) fault.Group (λ x. refl) End (with_fibres s) s.network.groups
         (λ _. after_fibres End refl refl) refl;
+    parts = refl;
     form = refl;
     ranges = refl;
     few = ap (λ (v : List Fields). nat_le 1 (length v)) no_end;
@@ -193,13 +197,13 @@ all-clean earlier (line ∷ lines) p =
 -- the lines of a setup in range pass
 pub setup-passes : (s : Setup) → is_setup s ≡ true → AllPass [] (setup_words s)
 setup-passes s h =
-    let r = setup-ranges s h in
+    let r = setup-facts s h in
     all_pass s r (network-parts s.network r.network) (network_few s.network r.network)
 
 pub texts-have-no-fault : TextsHaveNoFault
 texts-have-no-fault bytes s t =
     let pass = setup-passes s t.in_range in
-    let r = setup-ranges s t.in_range in
+    let r = setup-facts s t.in_range in
     let clean = all-clean [] (setup_words s) pass in
     ap network_fault (t.is ∙ sym (text_words s))
     ∙ ap (λ v. first_fault [] 1 v.0 v.1) (lines-found (setup_words s) clean)

@@ -1,3 +1,5 @@
+pub mod Cut
+pub mod Readings
 pub mod Told
 pub mod LineWords
 pub mod Steps

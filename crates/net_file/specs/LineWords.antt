@@ -5,7 +5,7 @@ use Rattle.eon_model.specs.Names.{Name}
 use Rattle.eon_model.specs.Numerals.{is_within, is_number, number_value, is_signed, signed_value}
 use Rattle.eon_model.specs.NetworkFault.{Fields}
 use Rattle.eon_base.specs.Names.{name_of}
-use Rattle.text_fields.specs.Readings.{first_read, is_nil}
+use Rattle.net_file.specs.Readings.{first_read, is_nil}
 use Rattle.net_file.specs.declared.fault.Why.{Why}
 use Rattle.net_file.specs.declared.fault.Why.TheVariants as why
 use Rattle.net_file.specs.declared.line_words.FibreWords.{FibreWords}

@@ -1,10 +1,9 @@
 -- What is added at the end of a text, and the texts of parts by their numbers.
 use Rattle.std.specs.Prelude.{◌≡◌, ℕ, zero, suc, List, [], ◌∷◌, ◌++◌, Result, Ok, Err, slice_get, codes, if◌then◌else◌}
 use Rattle.std.specs.Option.{unwrap_or}
-use Rattle.std.specs.Fmt.{signed_decimal}
+use Rattle.std.specs.List.{flat_map}
 use Rattle.eon_model.specs.Legal.{Setup}
-use Rattle.eon_model.specs.Spelling.{line}
-use Rattle.eon_model.specs.NetworkText.{number_line}
+use Rattle.eon_model.specs.NetworkText.{number_line, band_line, version_of}
 use Rattle.eon_model.specs.Lists.{has_number}
 use Rattle.eon_model.specs.Network.{Network, Group, fibre_at}
 use Rattle.eon_model.specs.Formats.{Format}
@@ -56,11 +55,11 @@ member_text net group fibre =
 
 -- ---- the front
 
--- the six lines before the formats
+-- the lines before the formats
 abbrev pub front_text : Setup → List ℕ
 front_text s =
-    number_line (codes "net") 1
-    ++ line (codes "band" ∷ signed_decimal s.band.lo ∷ signed_decimal s.band.hi ∷ [])
+    number_line (codes "net") (version_of s.band)
+    ++ flat_map band_line s.band
     ++ number_line (codes "guard") s.guard
     ++ number_line (codes "k") s.k
     ++ number_line (codes "services") s.services

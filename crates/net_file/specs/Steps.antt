@@ -1,7 +1,8 @@
 -- What each kind of line makes of what the lines before have told.
-use Rattle.std.specs.Prelude.{◌≡◌, ⊤, nat_le, ℤ, Bool, true, false, ◌&&◌, List, [], ◌∷◌, ◌++◌, length, drop, Option, Some, None, Result, Ok, Err, if◌then◌else◌}
+use Rattle.std.specs.Prelude.{◌≡◌, ⊤, ℕ, nat_le, ◌==◌, ℤ, pos, ◌+ℤ◌, ◌-ℤ◌, int_le, Bool, true, false, ◌&&◌, ◌||◌, not, List, [], ◌∷◌, ◌++◌, length, drop, Option, Some, None, Result, Ok, Err, if◌then◌else◌}
 use Rattle.std.specs.List.{list_all}
-use Rattle.eon_model.specs.Grid.{Units, is_band}
+use Rattle.std.specs.Option.{is_none}
+use Rattle.eon_model.specs.Grid.{Units, Band, is_units, span_of}
 use Rattle.eon_model.specs.Names.{Name, has_name, is_name}
 use Rattle.eon_model.specs.Network.{Network}
 use Rattle.eon_model.specs.Formats.{Format}
@@ -9,8 +10,9 @@ use Rattle.eon_model.specs.Numerals.{is_within}
 use Rattle.eon_model.specs.Legal.{Setup}
 use Rattle.eon_model.specs.NetworkFault.{Fields, field_at, word_spelled, may_stand_after, is_end}
 use Rattle.eon_model.specs.NetworkFault as model
+use Rattle.flex_grid.specs.Makes.{band_from, band_with}
 use Rattle.reach_table.specs.Tables.{format_names}
-use Rattle.text_fields.specs.Readings.{is_nil}
+use Rattle.net_file.specs.Readings.{is_nil}
 use Rattle.net_graph.specs.declared.graph.GraphFault.{GraphFault}
 use Rattle.net_graph.specs.declared.graph.GraphFault.TheVariants as graph
 use Rattle.net_graph.specs.Graph.{node_fault, with_node, fibre_fault, fibre_between, with_fibre, group_fault, group_named, with_group}
@@ -63,9 +65,47 @@ fault_of (Some w) = fault.Cause w
 abbrev pub units_between : ℤ × ℤ → Units
 units_between ends = record { lo = ends.0; hi = ends.1 }
 
-unfoldable pub band_step : Fields → Result Units Why
-band_step fields =
-    on_ok (λ ends. Ok (units_between ends)) (ranged (λ ends. is_band (units_between ends)) (band_words fields))
+-- the parts of a band that is told so far
+abbrev pub parts_of : Option Band → Band
+parts_of None = []
+parts_of (Some band) = band
+
+-- in a text of more parts than one, a first part leaves room for a second
+abbrev pub leaves_room : Units → Bool
+leaves_room part = int_le (part.hi -ℤ part.lo) (pos 1021) && int_le part.hi (pos 4093)
+
+-- whether the part may stand there, by its units and those of the parts before
+abbrev pub is_in_reach : ℕ → Option Band → Units → Bool
+is_in_reach version None part = not (version == 2) || leaves_room part
+is_in_reach version (Some band) part = int_le (part.hi -ℤ (span_of band).lo) (pos 1023)
+
+-- no unit lies between the part and those before
+abbrev pub touches : Band → Units → Bool
+touches band part = not (int_le ((span_of band).hi +ℤ pos 2) part.lo)
+
+-- the band, if it is one
+abbrev pub if_band : Option Band → Result Band Why
+if_band None = Err why.Range
+if_band (Some band) = Ok band
+
+-- the band with a part that is in reach
+abbrev pub with_part : Option Band → Units → Result Band Why
+with_part None part = if_band (band_from part.lo part.hi)
+with_part (Some band) part =
+    if nat_le 8 (length band) then Err why.Many
+    else if touches band part then Err why.Order
+    else if_band (band_with band part.lo part.hi)
+
+abbrev pub part_step : ℕ → Option Band → Units → Result Band Why
+part_step version band part = if is_in_reach version band part then with_part band part else Err why.Range
+
+-- the units that the fields tell
+unfoldable pub units_step : Fields → Result Units Why
+units_step fields =
+    on_ok (λ ends. Ok (units_between ends)) (ranged (λ ends. is_units (units_between ends)) (band_words fields))
+
+unfoldable pub band_step : ℕ → Option Band → Fields → Result Band Why
+band_step version band fields = on_ok (part_step version band) (units_step fields)
 
 abbrev pub format_of : FormatWords → Format
 format_of f = record { name = f.name; reach = f.reach; per = f.per }
@@ -116,13 +156,37 @@ group_step net fields =
 
 -- ---- the setup so far
 
--- The word of the last line, and the setup with what was told in its place.
+-- What the lines so far have told: the version of the text, and the numbers and lists of a setup.
+pub record SoFar : Type 0 where
+  pub version : ℕ
+  pub band : Option Band
+  pub guard : ℕ
+  pub k : ℕ
+  pub services : ℕ
+  pub journal : ℕ
+  pub formats : List Format
+  pub network : Network
+
+-- the setup of it
+abbrev pub setup_told : SoFar → Setup
+setup_told s = record {
+  band = parts_of s.band;
+  guard = s.guard;
+  k = s.k;
+  services = s.services;
+  journal = s.journal;
+  formats = s.formats;
+  network = s.network;
+}
+
+-- The word of the last line, and what was told in its place.
 pub record Sheet : Type 0 where
   pub last : Option model.Word
-  pub setup : Setup
+  pub setup : SoFar
 
-abbrev pub with_formats : Setup → List Format → Setup
+abbrev pub with_formats : SoFar → List Format → SoFar
 with_formats s rows = record {
+  version = s.version;
   band = s.band;
   guard = s.guard;
   k = s.k;
@@ -132,8 +196,9 @@ with_formats s rows = record {
   network = s.network;
 }
 
-abbrev pub with_network : Setup → Network → Setup
+abbrev pub with_network : SoFar → Network → SoFar
 with_network s net = record {
+  version = s.version;
   band = s.band;
   guard = s.guard;
   k = s.k;
@@ -143,21 +208,33 @@ with_network s net = record {
   network = net;
 }
 
--- what the fields behind the word make of the setup
-unfoldable pub setup_step : model.Word → Setup → Fields → Result Setup Why
-setup_step model.Net s fields = on_ok (λ n. Ok s) (number_in 1 1 fields)
-setup_step model.Band s fields =
-    on_ok (λ band. Ok (record {
-      band = band;
+-- what the fields behind the word make of it
+unfoldable pub setup_step : model.Word → SoFar → Fields → Result SoFar Why
+setup_step model.Net s fields =
+    on_ok (λ n. Ok (record {
+      version = n;
+      band = s.band;
       guard = s.guard;
       k = s.k;
       services = s.services;
       journal = s.journal;
       formats = s.formats;
       network = s.network;
-    })) (band_step fields)
+    })) (number_in 1 2 fields)
+setup_step model.Band s fields =
+    on_ok (λ band. Ok (record {
+      version = s.version;
+      band = Some band;
+      guard = s.guard;
+      k = s.k;
+      services = s.services;
+      journal = s.journal;
+      formats = s.formats;
+      network = s.network;
+    })) (band_step s.version s.band fields)
 setup_step model.Guard s fields =
     on_ok (λ n. Ok (record {
+      version = s.version;
       band = s.band;
       guard = n;
       k = s.k;
@@ -168,6 +245,7 @@ setup_step model.Guard s fields =
     })) (number_in 0 64 fields)
 setup_step model.K s fields =
     on_ok (λ n. Ok (record {
+      version = s.version;
       band = s.band;
       guard = s.guard;
       k = n;
@@ -178,6 +256,7 @@ setup_step model.K s fields =
     })) (number_in 1 16 fields)
 setup_step model.Services s fields =
     on_ok (λ n. Ok (record {
+      version = s.version;
       band = s.band;
       guard = s.guard;
       k = s.k;
@@ -188,6 +267,7 @@ setup_step model.Services s fields =
     })) (number_in 1 4096 fields)
 setup_step model.Journal s fields =
     on_ok (λ n. Ok (record {
+      version = s.version;
       band = s.band;
       guard = s.guard;
       k = s.k;
@@ -207,13 +287,23 @@ abbrev pub has_end : Option model.Word → Bool
 has_end None = false
 has_end (Some w) = is_end w
 
-abbrev pub told_by : model.Word → Setup → Sheet
+-- in version 2 a second part stands behind the first, and in version 1 none
+abbrev pub has_its_parts : SoFar → model.Word → Bool
+has_its_parts s model.Band = is_none s.band || (s.version == 2)
+has_its_parts s model.Guard = not (s.version == 2) || nat_le 2 (length (parts_of s.band))
+has_its_parts s _ = true
+
+-- whether a line with the word may come next
+abbrev pub may_come : Sheet → model.Word → Bool
+may_come s w = may_stand_after s.last w && has_its_parts s.setup w
+
+abbrev pub told_by : model.Word → SoFar → Sheet
 told_by w s = record { last = Some w; setup = s }
 
 abbrev pub word_step : Sheet → Option model.Word → Fields → Result Sheet Why
 word_step s None fields = Err why.Word
 word_step s (Some w) fields =
-    if may_stand_after s.last w then on_ok (λ setup. Ok (told_by w setup)) (setup_step w s.setup fields)
+    if may_come s w then on_ok (λ setup. Ok (told_by w setup)) (setup_step w s.setup fields)
     else Err why.Word
 
 -- what a line makes of it, or why it is wrong

@@ -1,18 +1,19 @@
 //! What the lines so far have told.
-ghost use Rattle.std.specs.Prelude.{◌≡◌, ℕ, ◌≤◌, ◌&&◌, List, [], length, IsTrue, drop, slice_get, option_map, option_and_then, OnOk, IfOk, IfErr, Some, Ok, Err, if◌then◌else◌};
-ghost use Rattle.net_file.specs.Steps.{IsFaultOf, fault_of, graph_why, band_step, format_step, node_step, fibre_step, group_step, line_step, setup_step, has_end};
+ghost use Rattle.std.specs.Prelude.{◌≡◌, ℕ, ◌≤◌, ◌&&◌, List, [], length, IsTrue, is_some, drop, slice_get, option_map, option_and_then, OnOk, IfOk, IfErr, Some, Ok, Err, if◌then◌else◌};
+ghost use Rattle.net_file.specs.Steps.{IsFaultOf, fault_of, graph_why, format_step, node_step, fibre_step, group_step, line_step, setup_step, setup_told, has_end, has_its_parts, may_come};
 ghost use Rattle.net_file.specs.LineWords.{number_in};
 ghost use Rattle.eon_model.specs.NetworkFault as model;
 ghost use Rattle.eon_model.specs.NetworkFault.{word_spelled};
 ghost use Rattle.eon_model.specs.Spelling.{fields_of};
 ghost use Rattle.eon_model.specs.Numerals.{is_within};
-ghost use Rattle.text_fields.specs.Readings.{is_nil};
+ghost use Rattle.net_file.specs.Readings.{is_nil};
 ghost use Rattle.net_file.specs.Drafts.{draft_seen, draft_setup, blank, Sound};
 ghost use Rattle.net_file.specs.Told.{word_told};
-ghost use Rattle.flex_grid.specs.Makes.{band_from};
 
 use crate::fault::{LineFault, Why};
-use crate::line_words::{band_words, fibre_words, format_words, names_left, node_words, number_in};
+use crate::fields::Fields;
+use crate::line_words::{fibre_words, format_words, names_left, node_words, number_in};
+use crate::parts::{band_told, parts_told};
 use crate::word::{Word, word_spelled};
 use eon_base::name::Name;
 use flex_grid::band::Band;
@@ -21,13 +22,36 @@ use net_setup::NetSetup;
 use reach_table::format::Format;
 use reach_table::table::{Table, TableFault};
 use std::alloc::Global;
-use text_fields::Fields;
+
+/// The greatest version of a text: 1 where the band has one part, 2 where it has more.
+const MOST_VERSION: u64 = 2;
+
+/// The greatest reach of a format, and the greatest length of a fibre, in kilometres.
+const MOST_KM: u64 = 100_000;
+
+/// The greatest number of Gbit/s per slot of 12.5 GHz.
+const MOST_PER: u64 = 10_000;
+
+/// The greatest guard beside a slot.
+const MOST_GUARD: u64 = 64;
+
+/// The greatest number of routes that are tried.
+const MOST_ROUTES: u64 = 16;
+
+/// The greatest number of live services.
+const MOST_SERVICES: u64 = 4096;
+
+/// The least and the greatest number of bytes of a journal.
+const LEAST_JOURNAL: u64 = 4096;
+
+const MOST_JOURNAL: u64 = 67_108_864;
 
 // What the lines so far have told. What they have not told yet is in range.
 #[derive(Drop)]
 pub(crate) struct Draft {
     last: Option<Word>,
-    band: Band,
+    version: u8,
+    band: Option<Band>,
     k: u8,
     services: u16,
     journal: u32,
@@ -37,33 +61,12 @@ pub(crate) struct Draft {
     alloc: Global,
 }
 
-// The band between these units, if it is one.
-fn band_of(lo: i64, hi: i64) -> Option<Band>
-    ensures { result ≡ band_from lo hi }
-{
-    if -4096 <= lo && lo <= 4095 && -4096 <= hi && hi <= 4095 {
-        Band::make(lo as i16, hi as i16)
-    } else {
-        None
-    }
-}
-
-#[tactic(auto, unfolding(crate::specs::Steps::band_step))]
-fn band_told(fields: &mut Fields<'_>) -> Result<Band, Why>
-    ensures { result ≡ band_step fields.old }
-{
-    let Some((lo, hi)) = band_words(fields) else {
-        return Err(Why::Form);
-    };
-    band_of(lo, hi).ok_or(Why::Range)
-}
-
 // Whether a reach and a number per slot are in range.
 fn has_format_ranges(reach: u64, per: u64) -> bool
     ensures value { result ≡ (is_within 1 100000 reach && is_within 1 10000 per) }
     ensures range { IsTrue result → ((1 ≤ reach) × (reach ≤ 100000) × (1 ≤ per) × (per ≤ 10000)) }
 {
-    1 <= reach && reach <= 100_000 && 1 <= per && per <= 10_000
+    1 <= reach && reach <= MOST_KM && 1 <= per && per <= MOST_PER
 }
 
 // Adds a line of the reach table.
@@ -133,7 +136,7 @@ fn add_fibre(builder: &mut NetBuilder, fields: &mut Fields<'_>) -> Result<(), Li
     let Some(words) = fibre_words(fields) else {
         return Err(LineFault::Cause(Why::Form));
     };
-    if !(1 <= words.km && words.km <= 100_000) {
+    if words.km < 1 || words.km > MOST_KM {
         return Err(LineFault::Cause(Why::Range));
     }
     match builder.add_fibre(words.name, words.a, words.b, words.km as u32) {
@@ -206,15 +209,13 @@ impl Draft {
     pub(crate) fn new(alloc: Global) -> Draft
         ensures { draft_seen result ≡ blank }
     {
-        let Some(band) = Band::make(0, 0) else {
-            unreachable!()
-        };
         Draft {
             last: None,
-            band,
+            version: 1,
+            band: None,
             k: 1,
             services: 1,
-            journal: 4096,
+            journal: LEAST_JOURNAL as u32,
             table: Table::new(alloc, 0),
             builder: NetBuilder::new(alloc),
             members: Vec::new(alloc),
@@ -223,13 +224,22 @@ impl Draft {
     }
 
     #[tactic(auto, unfolding(crate::specs::Steps::setup_step))]
+    fn take_version(&mut self, fields: &mut Fields<'_>) -> Result<(), LineFault>
+        ensures ok { OnOk result (setup_step model.Net (draft_setup self.old) fields.old ≡ Ok (draft_setup self.new)) }
+        ensures err { IfErr result (λ e. IsFaultOf e (setup_step model.Net (draft_setup self.old) fields.old)) }
+    {
+        self.version = number_told(fields, 1, MOST_VERSION)? as u8;
+        Ok(())
+    }
+
+    #[tactic(auto, unfolding(crate::specs::Steps::setup_step))]
     fn take_band(&mut self, fields: &mut Fields<'_>) -> Result<(), LineFault>
         ensures ok { OnOk result (setup_step model.Band (draft_setup self.old) fields.old ≡ Ok (draft_setup self.new)) }
         ensures err { IfErr result (λ e. IsFaultOf e (setup_step model.Band (draft_setup self.old) fields.old)) }
     {
-        match band_told(fields) {
+        match band_told(self.version, &self.band, fields) {
             Ok(band) => {
-                self.band = band;
+                self.band = Some(band);
                 Ok(())
             }
             Err(why) => Err(LineFault::Cause(why)),
@@ -241,7 +251,7 @@ impl Draft {
         ensures ok { OnOk result (setup_step model.Guard (draft_setup self.old) fields.old ≡ Ok (draft_setup self.new)) }
         ensures err { IfErr result (λ e. IsFaultOf e (setup_step model.Guard (draft_setup self.old) fields.old)) }
     {
-        let guard = number_told(fields, 0, 64)?;
+        let guard = number_told(fields, 0, MOST_GUARD)?;
         self.table = Table::new(self.alloc, guard as u16);
         Ok(())
     }
@@ -251,7 +261,7 @@ impl Draft {
         ensures ok { OnOk result (setup_step model.K (draft_setup self.old) fields.old ≡ Ok (draft_setup self.new)) }
         ensures err { IfErr result (λ e. IsFaultOf e (setup_step model.K (draft_setup self.old) fields.old)) }
     {
-        self.k = number_told(fields, 1, 16)? as u8;
+        self.k = number_told(fields, 1, MOST_ROUTES)? as u8;
         Ok(())
     }
 
@@ -260,7 +270,7 @@ impl Draft {
         ensures ok { OnOk result (setup_step model.Services (draft_setup self.old) fields.old ≡ Ok (draft_setup self.new)) }
         ensures err { IfErr result (λ e. IsFaultOf e (setup_step model.Services (draft_setup self.old) fields.old)) }
     {
-        self.services = number_told(fields, 1, 4096)? as u16;
+        self.services = number_told(fields, 1, MOST_SERVICES)? as u16;
         Ok(())
     }
 
@@ -269,7 +279,7 @@ impl Draft {
         ensures ok { OnOk result (setup_step model.Journal (draft_setup self.old) fields.old ≡ Ok (draft_setup self.new)) }
         ensures err { IfErr result (λ e. IsFaultOf e (setup_step model.Journal (draft_setup self.old) fields.old)) }
     {
-        self.journal = number_told(fields, 4096, 67_108_864)? as u32;
+        self.journal = number_told(fields, LEAST_JOURNAL, MOST_JOURNAL)? as u32;
         Ok(())
     }
 
@@ -282,7 +292,7 @@ impl Draft {
         ensures err { IfErr result (λ e. IsFaultOf e (setup_step (word_told word) (draft_setup self.old) fields.old)) }
     {
         match word {
-            Word::Net => number_told(fields, 1, 1).map(|_| ()),
+            Word::Net => self.take_version(fields),
             Word::Band => self.take_band(fields),
             Word::Guard => self.take_guard(fields),
             Word::K => self.take_k(fields),
@@ -294,6 +304,25 @@ impl Draft {
             Word::Group => add_group(&mut self.builder, &mut self.members, fields),
             Word::End => no_more(fields),
         }
+    }
+
+    // Whether the parts of the band that are told so far let the word stand next: in version 2 a second
+    // part has to follow the first, and in version 1 none may.
+    fn has_its_parts(&self, word: Word) -> bool
+        ensures { result ≡ has_its_parts (draft_setup self.now) (word_told word) }
+    {
+        match word {
+            Word::Band => self.band.is_none() || self.version == 2,
+            Word::Guard => self.version != 2 || parts_told(&self.band) >= 2,
+            _ => true,
+        }
+    }
+
+    // Whether a line with the word may come next.
+    fn may_come(&self, word: Word) -> bool
+        ensures { result ≡ may_come (draft_seen self.now) (word_told word) }
+    {
+        word.may_stand_after(self.last) && self.has_its_parts(word)
     }
 
     // Whether the line `end` has come.
@@ -317,7 +346,7 @@ impl Draft {
         let Some(word) = first_word(&mut fields) else {
             return Err(LineFault::Cause(Why::Word));
         };
-        if !word.may_stand_after(self.last) {
+        if !self.may_come(word) {
             return Err(LineFault::Cause(Why::Word));
         }
         self.take_words(word, &mut fields)?;
@@ -327,11 +356,15 @@ impl Draft {
 
     // The network that was told.
     pub(crate) fn finish(self) -> NetSetup
-        ensures { result ≡ draft_setup self }
+        requires { IsTrue (is_some self.band) }
+        ensures { result ≡ setup_told (draft_setup self) }
     {
+        let Some(band) = self.band else {
+            unreachable!()
+        };
         NetSetup {
             net: self.builder.build(),
-            band: self.band,
+            band,
             table: self.table,
             k: self.k,
             services: self.services,

@@ -2,12 +2,16 @@
 //! layers above may use `read_net` with the faults that it tells, `print_net`, and the laws of these texts.
 #![tactic(auto)]
 
+mod cut;
 mod draft;
 pub mod fault;
 #[cfg(test)]
 mod fault_tests;
+mod fields;
 pub mod laws;
 mod line_words;
+mod lines;
+mod parts;
 mod printing;
 #[cfg(test)]
 mod printing_tests;

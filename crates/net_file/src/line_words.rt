@@ -1,15 +1,15 @@
 //! The fields of a line behind its word, as the kind of line asks for them.
 ghost use Rattle.std.specs.Prelude.{◌≡◌, drop, OnOk, IfOk, IsTrue};
 ghost use Rattle.std.specs.List.{list_all};
-ghost use Rattle.text_fields.specs.Readings.{first_read, is_nil};
+ghost use Rattle.net_file.specs.Readings.{first_read, is_nil};
 ghost use Rattle.eon_model.specs.Names.{is_name};
 ghost use Rattle.net_file.specs.LineWords.{capped, capped_signed, one_number, number_in, band_words, format_words, node_words, fibre_words};
 
 use crate::fault::Why;
+use crate::fields::Fields;
 use eon_base::name::Name;
 use eon_base::number::{NumFault, read_i64, read_u64};
 use std::alloc::AllocError;
-use text_fields::Fields;
 
 // The number that the bytes spell, or 2^64 - 1 for a greater one.
 fn capped(field: &[u8]) -> Option<u64>

@@ -1,17 +1,17 @@
 //! Printing a network, with what is planned on it, as its text.
-ghost use Rattle.std.specs.Prelude.{◌≡◌, ◌<◌, [], ◌∷◌, ◌++◌, codes, map, length, IsTrue, OnOk, OnErr};
-ghost use Rattle.std.specs.Fmt.{signed_decimal};
+ghost use Rattle.std.specs.Prelude.{◌≡◌, ◌<◌, ◌∷◌, ◌++◌, map, length, IsTrue, OnOk, OnErr};
 ghost use Rattle.std.specs.List.{flat_map};
 ghost use Rattle.eon_model.specs.Network.{name_at, fibre_at, names_of_fibres};
 ghost use Rattle.eon_model.specs.Lists.{has_number};
 ghost use Rattle.eon_model.specs.Spelling.{line};
-ghost use Rattle.eon_model.specs.NetworkText.{number_line, format_line, node_line, fibre_line, group_line, network_lines, network_text};
+ghost use Rattle.eon_model.specs.NetworkText.{number_line, band_line, version_of, format_line, node_line, fibre_line, group_line, network_lines, network_text};
 ghost use Rattle.net_graph.specs.Graph.{is_graph};
 ghost use Rattle.net_file.specs.PrintWords.{Adds, Grew, behind, group_at, member_text, front_text};
 
 use eon_base::name::Name;
 use eon_base::number::{digits, signed};
 use flex_grid::band::Band;
+use flex_grid::units::Units;
 use net_graph::Net;
 use net_setup::NetSetup;
 use reach_table::format::Format;
@@ -190,21 +190,36 @@ fn push_network(net: &Net, out: &mut Vec<u8>) -> Result<(), AllocError>
 
 // ---- the text
 
-fn push_band(band: &Band, out: &mut Vec<u8>) -> Result<(), AllocError>
-    ensures { Adds result out.old.items out.new.items
-        (line (codes "band" ∷ signed_decimal band.now.lo ∷ signed_decimal band.now.hi ∷ [])) }
+// The version of the text: 2 where the band has more than one part.
+fn version(band: &Band) -> u64
+    ensures { result ≡ version_of band.now }
 {
-    let lo = signed(i64::from(band.lo()));
-    let hi = signed(i64::from(band.hi()));
+    if band.parts() <= 1 { 1 } else { 2 }
+}
+
+fn push_part(part: &Units, out: &mut Vec<u8>) -> Result<(), AllocError>
+    ensures { Adds result out.old.items out.new.items (band_line part.now) }
+{
+    let lo = signed(i64::from(part.lo()));
+    let hi = signed(i64::from(part.hi()));
     push_line(b"band", &[lo.bytes(), hi.bytes()], out)
 }
 
-// The six lines before the formats.
+fn push_parts(band: &Band, out: &mut Vec<u8>) -> Result<(), AllocError>
+    ensures { Adds result out.old.items out.new.items (flat_map band_line band.now) }
+{
+    for i in 0..band.parts() {
+        push_part(&band.part(i), out)?;
+    }
+    Ok(())
+}
+
+// The lines before the formats.
 fn push_front(setup: &NetSetup, out: &mut Vec<u8>) -> Result<(), AllocError>
     ensures { Adds result out.old.items out.new.items (front_text setup.now) }
 {
-    push_number(b"net", 1, out)?;
-    push_band(&setup.band, out)?;
+    push_number(b"net", version(&setup.band), out)?;
+    push_parts(&setup.band, out)?;
     push_number(b"guard", u64::from(setup.table.guard()), out)?;
     push_number(b"k", u64::from(setup.k), out)?;
     push_number(b"services", u64::from(setup.services), out)?;

@@ -1,5 +1,5 @@
 //! Reading a network text.
-ghost use Rattle.std.specs.Prelude.{◌≡◌, ◌≤◌, ◌⊎◌, length, None, IfOk, IfErr, OnOk};
+ghost use Rattle.std.specs.Prelude.{◌≡◌, ◌⊎◌, None, IfOk, IfErr, OnOk};
 ghost use Rattle.eon_model.specs.Legal.{Setup};
 ghost use Rattle.eon_model.specs.NetworkText.{IsNetworkTextOf};
 ghost use Rattle.eon_model.specs.NetworkFault.{network_fault};
@@ -7,9 +7,9 @@ ghost use Rattle.net_file.specs.Told.{IsRefusalOf, refusal_at};
 
 use crate::draft::Draft;
 use crate::fault::{LineFault, NetFault, NetRefusal, Why};
+use crate::lines::Lines;
 use net_setup::NetSetup;
 use std::alloc::Global;
-use text_fields::Lines;
 
 // What is told of a line that was not taken.
 fn refusal(line: u32, fault: LineFault) -> NetRefusal
@@ -21,10 +21,9 @@ fn refusal(line: u32, fault: LineFault) -> NetRefusal
     }
 }
 
-/// Reads a network text of at most 1,048,576 bytes, line by line. Where it is none, its first line that is wrong is
+/// Reads a network text, line by line. Where it is none, its first line that is wrong is
 /// told, with the first cause in the order of `Why`; or `Memory` where memory did not suffice.
 pub fn read_net(alloc: Global, bytes: &[u8]) -> Result<NetSetup, NetRefusal>
-    requires few { length bytes.now ≤ 1048576 }
     ensures ok { IfOk result (λ s. IsNetworkTextOf bytes.now s) }
     ensures fault { IfErr result (λ e. IsRefusalOf bytes.now e) }
     ensures refused { IfErr result (λ e. (e ≡ NetRefusal.Memory) ⊎ ((s : Setup) → IsNetworkTextOf bytes.now s → ⊥)) }

@@ -57,7 +57,7 @@ impl Word {
         match last {
             None => matches!(self, Word::Net),
             Some(Word::Net) => matches!(self, Word::Band),
-            Some(Word::Band) => matches!(self, Word::Guard),
+            Some(Word::Band) => matches!(self, Word::Band | Word::Guard),
             Some(Word::Guard) => matches!(self, Word::K),
             Some(Word::K) => matches!(self, Word::Services),
             Some(Word::Services) => matches!(self, Word::Journal),

@@ -2,7 +2,7 @@ use Rattle.std.proofs.Common.{sym, ◌∙◌, subst, arith}
 use Rattle.eon_model.specs.Legal.{Setup}
 use Rattle.eon_model.specs.NetworkText.{IsNetworkTextOf}
 use Rattle.net_file.specs.Drafts.{draft_seen}
-use Rattle.net_file.proofs.ReadLaws.{at-begin, at-onward, at-few, at-refused, told-short, told-rest, told-whole}
+use Rattle.net_file.proofs.ReadLaws.{at-begin, at-onward, at-few, at-refused, told-short, told-rest, told-whole, told-band}
 use Rattle.net_file.proofs.RefusedLaws.{refused-texts}
 use Rattle.net_file.proofs.reading.read_net.Goals as goal
 
@@ -13,7 +13,6 @@ loop-line-init c =
 pub overflow_add-number : goal.overflow_add-number
 overflow_add-number c =
     let few = at-few c.args.bytes.now (draft_seen c.loop-line.draft) c.loop-line.number c.loop-line.lines c.loop-line.invariant in
-    let all = c.requires.few in
     omega arith
 
 pub loop-line-preserved : goal.loop-line-preserved
@@ -39,6 +38,11 @@ returns-then-not-is_done-clause-fault c =
     c.next_line.new.self c.refusal-then-not-is_done.result c.loop-line.invariant c.in_default.ensures.value
     (sym c.has_ended.ensures ∙ c.if-not-has_ended.false) c.next_line.ensures.after
     (sym c.is_done.ensures ∙ c.if-not-is_done.true) c.refusal-then-not-is_done.ensures
+
+pub finish-requires : goal.finish-requires
+finish-requires c =
+    told-band c.args.bytes.now (draft_seen c.loop-line.draft) c.loop-line.number c.loop-line.lines c.loop-line.invariant
+    (sym c.has_ended.ensures ∙ c.if-not-has_ended.false)
 
 pub returns-clause-ok : goal.returns-clause-ok
 returns-clause-ok c =

@@ -1,4 +1,0 @@
-pub mod CutLaws
-pub mod SplitText
-pub mod Parts
-pub mod SpelledParts

@@ -1,5 +1,0 @@
-use Rattle.text_fields.proofs.CutLaws.{lines-done}
-use Rattle.text_fields.proofs.lines.Lines.is_done.Goals as goal
-
-pub returns : goal.returns
-returns c = lines-done c.args.self.now c.self.inside.rest.now c.is_empty.result c.self.view_is c.is_empty.ensures
