@@ -4,6 +4,7 @@ pub mod RowLemmas
 pub mod GraphParts
 pub mod BuildLemmas
 pub mod WalkLemmas
+pub mod StandLaws
 pub mod RouteSums
 pub mod FaultLemmas
 pub mod GroupLemmas

@@ -1,19 +1,23 @@
 -- The length and the risk of a list of fibres, one fibre after another.
-use Rattle.std.proofs.Common.{◌≡◌, sym, ◌∙◌, ap, ℕ, ◌+◌, ◌<◌, ◌≤◌, true, List, [], ◌∷◌, ◌++◌, length, take, get_or, arith, All, append-nil, zero, suc, nat_le}
+use Rattle.std.proofs.Common.{◌≡◌, sym, ◌∙◌, ap, ℕ, ◌+◌, ◌<◌, ◌≤◌, true, List, [], ◌∷◌, ◌++◌, length, take, get_or, arith, All, append-nil, zero, suc, nat_le, nat_eq, refl, inl, inr, Option, Some, None, slice_get}
+use Rattle.std.specs.Option.{option_and_then}
 use Rattle.std.specs.List.{sum_by, flat_map, list_all, AllByRecursion}
 use Rattle.std.specs.FinSet as set
-use Rattle.std.proofs.lemmas.Bool.{and_parts, ltb-true, leb-true}
+use Rattle.std.proofs.lemmas.Bool.{and_parts, leb-true}
 use Rattle.std.proofs.lemmas.List.{take_more}
 use Rattle.std.proofs.lemmas.Grind.{flat_map-append}
 use Rattle.std.proofs.lemmas.List.Sums.{sum_by-append}
 use Rattle.eon_model.specs.Names.{Name}
 use Rattle.eon_model.specs.Network.{Network, Fibre, fibre_at, risks_of_fibre}
 use Rattle.eon_model.specs.NetworkText.{is_fibre_among}
-use Rattle.eon_model.specs.Route.{km_of, risk_of, walks}
+use Rattle.eon_model.specs.Route.{far_end, km_of, risk_of, walks}
 use Rattle.eon_model.specs.Sets.{set_of}
-use Rattle.eon_model.proofs.OrderLaws.{AllOf}
-use Rattle.eon_model.proofs.RouteLaws.{EndsAreNodes, walks-IsListed}
+use Rattle.eon_model.proofs.OrderLaws.{IsIn, AllOf, AllOf-at}
+use Rattle.eon_model.proofs.ListLaws.{slice_get_in}
+use Rattle.eon_model.proofs.RouteLaws.{EndsAreNodes, far_end_cases, walks-IsListed}
+use Rattle.eon_model.proofs.SetupLaws.{fibres-EndsAreNodes}
 use Rattle.net_graph.specs.Graph.{is_graph}
+use Rattle.net_graph.specs.Walks.{node_after}
 use Rattle.net_graph.proofs.GraphParts.{parts_of}
 use Rattle.net_graph.proofs.WordLemmas.{union-lists}
 
@@ -37,19 +41,8 @@ risk-more net is i l =
 
 -- ---- what a walk says of its fibres
 
-ends_by : (nodes : List Name) (fs : List Fibre) → list_all (is_fibre_among nodes) fs ≡ true →
-    AllOf (λ f. (f.a < length nodes) × (f.b < length nodes)) fs
-ends_by nodes [] h = tt
-ends_by nodes (f ∷ fs) h =
-    let p5 = and_parts (is_fibre_among nodes f) (list_all (is_fibre_among nodes) fs) h in
-    let p4 = and_parts _ _ p5.0 in
-    let p3 = and_parts _ _ p4.0 in
-    let p2 = and_parts _ _ p3.0 in
-    let p1 = and_parts _ _ p2.0 in
-    ((ltb-true f.a (length nodes) p1.1, ltb-true f.b (length nodes) p2.1), ends_by nodes fs p5.1)
-
 pub graph-ends : (net : Network) → is_graph net ≡ true → EndsAreNodes net
-graph-ends net h = ends_by net.nodes net.fibres (parts_of net h).fibres_good
+graph-ends net h = fibres-EndsAreNodes net (parts_of net h).fibres_good
 
 pub walk-few : (net : Network) (s t : ℕ) (is : List ℕ) → is_graph net ≡ true →
     walks net.fibres s t is ≡ true → length is ≤ 64
@@ -83,3 +76,39 @@ km_by nodes (f ∷ fs) (suc i) h =
 
 pub km-small : (net : Network) (i : ℕ) → is_graph net ≡ true → (fibre_at net.fibres i).km ≤ 100000
 km-small net i h = km_by net.nodes net.fibres i (parts_of net h).fibres_good
+
+-- ---- ends of fibres
+
+module _ (net : Network) (ends : EndsAreNodes net) (node : ℕ) where
+  far_nodes : (f : Fibre) (next : ℕ) → IsIn f net.fibres → far_end node f ≡ Some next →
+      (node < length net.nodes) × (next < length net.nodes)
+  far_nodes f next i e =
+      let at = AllOf-at (λ f. (f.a < length net.nodes) × (f.b < length net.nodes)) net.fibres f ends i in
+      elim (far_end_cases node next f (nat_eq f.a node) (nat_eq f.b node) refl refl e) [
+        | inl one ↦ (omega (arith, at.0, one.0), omega (arith, at.1, one.1))
+        | inr other ↦ (omega (arith, at.1, other.0), omega (arith, at.0, other.1))
+      ]
+
+  -- a fibre leads from a node to a node
+  pub node_after-nodes : (i next : ℕ) → node_after net.fibres node i ≡ Some next →
+      (node < length net.nodes) × (next < length net.nodes)
+  node_after-nodes i next e = by (slice_get net.fibres i) refl e
+    where
+      by : (o : Option Fibre) → slice_get net.fibres i ≡ o → option_and_then (far_end node) o ≡ Some next →
+          (node < length net.nodes) × (next < length net.nodes)
+      by None at h = cc
+      by (Some f) at h = far_nodes f next (slice_get_in net.fibres i f at).1 h
+
+ends_by : (n : ℕ) (fs : List Fibre) (i : ℕ) → AllOf (λ f. (f.a < n) × (f.b < n)) fs → i < length fs →
+    ((fibre_at fs i).a < n) × ((fibre_at fs i).b < n)
+ends_by n [] i all l = absurd (omega (arith, l))
+ends_by n (f ∷ fs) zero all l = all.0
+ends_by n (f ∷ fs) (suc i) all l = ends_by n fs i all.1 (omega (arith, l))
+
+-- the ends of each fibre are numbers of nodes
+pub ends-small : (net : Network) (i : ℕ) → is_graph net ≡ true → i < length net.fibres →
+    ((fibre_at net.fibres i).a < 64) × ((fibre_at net.fibres i).b < 64)
+ends-small net i h l =
+    let e = ends_by (length net.nodes) net.fibres i (graph-ends net h) l in
+    let few = (parts_of net h).nodes_few in
+    (omega (arith, e.0, few), omega (arith, e.1, few))

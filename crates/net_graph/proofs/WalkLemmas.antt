@@ -1,12 +1,11 @@
 -- Walking fibre by fibre.
-use Rattle.std.proofs.Common.{◌≡◌, refl, sym, ◌∙◌, ap, ℕ, ◌+◌, ◌<◌, ◌≤◌, nat_eq, ◌==◌, Bool, true, false, ◌&&◌, ◌||◌, not, List, [], ◌∷◌, length, Option, Some, None, drop, get_or, drop-cons, add-one}
-use Rattle.std.proofs.lemmas.List.{drop_all}
+use Rattle.std.proofs.Common.{◌≡◌, refl, sym, ◌∙◌, ap, ℕ, nat_eq, ◌==◌, Bool, true, false, ◌&&◌, ◌||◌, not, List, [], ◌∷◌, length, Option, Some, None}
 use Rattle.std.specs.Option.{option_map, option_and_then, option_map_or}
 use Rattle.std.specs.List.{list_all}
 use Rattle.std.specs.Ordering.{nat_cmp}
 use Rattle.std.specs.Cmp.{nat_cmp_total, unsigned_tied, nat_eq_equiv}
 use Rattle.std.specs.FinSet.{contains, insert, contains-insert, empty, contains-empty}
-use Rattle.std.proofs.lemmas.Bool.{and_parts, and_from, and_left, and_right, or_left, or_parts, or_from, not-true, eq-eqb, ne_eqb, both_ways}
+use Rattle.std.proofs.lemmas.Bool.{and_parts, and_from, and_right, or_left, or_parts, or_from, not-true, eq-eqb, ne_eqb, both_ways}
 use Rattle.eon_model.specs.Lists.{numbers_differ}
 use Rattle.eon_model.specs.Network.{Fibre}
 use Rattle.eon_model.specs.Route.{nodes_along, ends_at, visits_once, walks}
@@ -168,57 +167,7 @@ walks-goes fibres s t i is =
     ∙ sym (along fibres (insert empty s) s t (i ∷ is)
     (member-insert empty s s ∙ or_left (nat_eq s s) (contains empty s) (eq-eqb s s refl)))
 
--- ---- one fibre more
-
-stuck : (fibres : List Fibre) (seen : NumberSet) (node t i : ℕ) (is : List ℕ) →
-    node_after fibres node i ≡ None → goes fibres seen node t (i ∷ is) ≡ false
-stuck fibres seen node t i is e =
-    ap (λ o. option_map_or (λ next. not (contains seen next) && goes fibres (insert seen next) next t is) o false) e
-
-revisits : (fibres : List Fibre) (seen : NumberSet) (node t i next : ℕ) (is : List ℕ) →
-    node_after fibres node i ≡ Some next → contains seen next ≡ true →
-    goes fibres seen node t (i ∷ is) ≡ false
-revisits fibres seen node t i next is e again =
-    ap (λ o. option_map_or (λ next. not (contains seen next) && goes fibres (insert seen next) next t is) o false) e
-    ∙ and_left (not (contains seen next)) (goes fibres (insert seen next) next t is) (ap not again)
-
-leads_on : (fibres : List Fibre) (seen : NumberSet) (node t i next : ℕ) (is : List ℕ) →
-    node_after fibres node i ≡ Some next → contains seen next ≡ false →
-    goes fibres seen node t (i ∷ is) ≡ goes fibres (insert seen next) next t is
-leads_on fibres seen node t i next is e new =
-    ap (λ o. option_map_or (λ next. not (contains seen next) && goes fibres (insert seen next) next t is) o false) e
-    ∙ ap (λ b. not b && goes fibres (insert seen next) next t is) new
-
--- ---- in a list of fibres, from index i on
-
-here : (xs : List ℕ) (i : ℕ) → i < length xs → drop i xs ≡ get_or xs i 0 ∷ drop (i + 1) xs
-here xs i l = rw (add-one, drop-cons xs i 0)
-
 pub walks-begun : (fibres : List Fibre) (s t : ℕ) (is : List ℕ) → (length is ≡ 0 → ⊥) →
     walks fibres s t is ≡ goes fibres (insert empty s) s t is
 walks-begun fibres s t [] some = absurd (some refl)
 walks-begun fibres s t (i ∷ is) some = walks-goes fibres s t i is
-
-pub goes-none : (fibres : List Fibre) (seen : NumberSet) (node t : ℕ) (is : List ℕ) (i : ℕ) →
-    length is ≤ i → goes fibres seen node t (drop i is) ≡ (node == t)
-goes-none fibres seen node t is i past = ap (goes fibres seen node t) (drop_all i is past)
-
-pub goes-stuck : (fibres : List Fibre) (seen : NumberSet) (node t : ℕ) (is : List ℕ) (i : ℕ) →
-    i < length is → node_after fibres node (get_or is i 0) ≡ None →
-    goes fibres seen node t (drop i is) ≡ false
-goes-stuck fibres seen node t is i l e =
-    ap (goes fibres seen node t) (here is i l) ∙ stuck fibres seen node t (get_or is i 0) (drop (i + 1) is) e
-
-pub goes-revisits : (fibres : List Fibre) (seen : NumberSet) (node t : ℕ) (is : List ℕ) (i next : ℕ) →
-    i < length is → node_after fibres node (get_or is i 0) ≡ Some next → contains seen next ≡ true →
-    goes fibres seen node t (drop i is) ≡ false
-goes-revisits fibres seen node t is i next l e again =
-    ap (goes fibres seen node t) (here is i l)
-    ∙ revisits fibres seen node t (get_or is i 0) next (drop (i + 1) is) e again
-
-pub goes-on : (fibres : List Fibre) (seen : NumberSet) (node t : ℕ) (is : List ℕ) (i next : ℕ) →
-    i < length is → node_after fibres node (get_or is i 0) ≡ Some next → contains seen next ≡ false →
-    goes fibres seen node t (drop i is) ≡ goes fibres (insert seen next) next t (drop (i + 1) is)
-goes-on fibres seen node t is i next l e new =
-    ap (goes fibres seen node t) (here is i l)
-    ∙ leads_on fibres seen node t (get_or is i 0) next (drop (i + 1) is) e new

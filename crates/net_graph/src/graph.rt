@@ -1,13 +1,14 @@
 //! A network: nodes, fibres between them, and the named groups of fibres that can fail together.
 //! Each has a number, which counts them from 0 in the order of their names.
 
-ghost use Rattle.std.specs.Prelude.{◌≡◌, ℕ, ◌+◌, ◌<◌, ◌≤◌, ◌⊎◌, List, [], ◌∷◌, ◌++◌, length, map, IsTrue, true, false, Option, Some, None, is_none, is_ok, if◌then◌else◌, IfOk, IfErr, OnOk, OnErr, All};
+ghost use Rattle.std.specs.Prelude.{◌≡◌, ℕ, ◌+◌, ◌<◌, ◌≤◌, ◌⊎◌, List, [], ◌∷◌, ◌++◌, length, map, IsTrue, true, false, Option, Some, None, is_none, is_ok, if◌then◌else◌, IfSome, IfOk, IfErr, OnOk, OnErr, All};
 ghost use Rattle.std.specs.List.{list_any, filter_map};
 ghost use Rattle.eon_model.specs.Names.{is_name, has_name, ascend as names_rise};
 ghost use Rattle.eon_model.specs.Lists.{numbers_ascend};
 ghost use Rattle.eon_model.specs.Sets.{set_of};
 ghost use Rattle.eon_model.specs.Network as model;
 ghost use Rattle.net_graph.specs.Graph.{is_graph, no_graph, comes_after, node_fault, with_node, fibre_fault, fibre_between, with_fibre, group_fault, group_named, with_group};
+ghost use Rattle.net_graph.specs.Walks.{node_after};
 ghost use Rattle.net_graph.specs.Rows.{fibre_seen, row_names, row_with, rows_with, few_groups, some_full_row, network_of, group_seen, CountsGroups};
 
 use crate::sets::RiskSet;
@@ -501,6 +502,25 @@ impl Net {
         ensures { fibre_seen result ≡ model.fibre_at self.now.fibres fibre }
     {
         self.rows[fibre as usize].fibre
+    }
+
+    /// The node at the far end of the fibre of this number, seen from this node; None where the node is
+    /// neither of its ends, or no fibre has the number.
+    pub fn far_end(&self, fibre: u8, node: u8) -> Option<u8>
+        ensures value { result ≡ node_after self.now.fibres node fibre }
+        ensures small { IfSome result (λ n. n < 64) }
+    {
+        if fibre >= self.fibres() {
+            return None;
+        }
+        let fibre = self.fibre(fibre);
+        if fibre.a == node {
+            Some(fibre.b)
+        } else if fibre.b == node {
+            Some(fibre.a)
+        } else {
+            None
+        }
     }
 
     /// The number of the node of this name; None where no node has it.

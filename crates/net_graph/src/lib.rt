@@ -9,9 +9,11 @@ pub mod route_list;
 pub mod sets;
 #[cfg(test)]
 mod tests;
+pub mod walk;
 
 pub use eon_model::Class;
 pub use graph::{Fibre, GraphFault, Net, NetBuilder};
 pub use route::Route;
 pub use route_list::RouteList;
-pub use sets::{FibreSet, RiskSet};
+pub use sets::{FibreSet, NodeSet, RiskSet};
+pub use walk::{Stand, stand_at};

@@ -4,10 +4,11 @@ ghost use Rattle.std.specs.Prelude.{◌≡◌, ℕ, ◌+◌, ◌<◌, ◌≤◌,
 ghost use Rattle.eon_model.specs.Network.{fibre_at};
 ghost use Rattle.eon_model.specs.Route as model;
 ghost use Rattle.net_graph.specs.Graph.{is_graph};
-ghost use Rattle.net_graph.specs.Walks.{node_after, route_from};
+ghost use Rattle.net_graph.specs.Walks.{route_from};
 
 use crate::graph::Net;
 use crate::sets::RiskSet;
+use crate::walk::is_walk;
 use smallvec::SmallVec;
 use std::alloc::{AllocError, Global};
 use std::marker::Model;
@@ -33,47 +34,6 @@ impl Model for Route {
     ghost coded = { route_code };
 
     ghost view = { λ r. record { fibres = r.fibres.items; km = r.km; risk = r.risk } };
-}
-
-// The node to which the fibre leads from this node; None where it is not one of its ends, or no fibre.
-fn next_node(net: &Net, node: u8, number: u8) -> Option<u8>
-    ensures { result ≡ node_after net.now.fibres node number }
-{
-    if number >= net.fibres() {
-        return None;
-    }
-    let fibre = net.fibre(number);
-    if fibre.a == node {
-        Some(fibre.b)
-    } else if fibre.b == node {
-        Some(fibre.a)
-    } else {
-        None
-    }
-}
-
-// Whether these fibres walk from s to t and visit no node twice.
-fn is_walk(net: &Net, s: u8, t: u8, fibres: &[u8]) -> bool
-    ensures graph { IsTrue (is_graph net.now) }
-    ensures walk { result ≡ model.walks net.now.fibres s t fibres.now }
-{
-    let _ = net.fibres();
-    if fibres.is_empty() {
-        return false;
-    }
-    let mut node = s;
-    let mut visited = RiskSet::empty().with(s as u16);
-    for number in fibres {
-        let Some(next) = next_node(net, node, *number) else {
-            return false;
-        };
-        if visited.has(next as u16) {
-            return false;
-        }
-        visited.add(next as u16);
-        node = next;
-    }
-    node == t
 }
 
 // The length of this fibre.

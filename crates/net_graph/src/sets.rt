@@ -1,4 +1,4 @@
-//! Sets of fibre numbers and of risk numbers, one bit for each number.
+//! Sets of node numbers, of fibre numbers and of risk numbers, one bit for each number.
 
 ghost use Rattle.std.specs.Prelude.{◌≡◌, ℕ, ◌==◌, ◌+◌, ◌/◌, ◌<◌, ◌^◌, not, length, slice_set, slice_index, bit_or};
 ghost use Rattle.std.specs.List.{list_any};
@@ -43,6 +43,59 @@ fn join_words(words: &mut [u64], more: &[u64])
 {
     for i in 0..words.len() {
         words[i] |= more[i];
+    }
+}
+
+/// A set of node numbers, each below 64.
+#[derive(Debug, Drop)]
+pub struct NodeSet {
+    words: [u64; 1],
+}
+
+impl Model for NodeSet {
+    ghost use Rattle.std.specs.Prelude.{◌≡◌, length};
+    ghost use Rattle.eon_model.specs.Sets.{NumberSet, set_code};
+    ghost use Rattle.net_graph.specs.Words.{bits_in};
+
+    ghost Value = { NumberSet };
+
+    ghost coded = { set_code };
+
+    ghost view = { λ s. bits_in 64 s.words };
+
+    ghost invariant = { λ s. length s.words ≡ 1 };
+}
+
+impl NodeSet {
+    /// The set of no node.
+    pub fn empty() -> NodeSet
+        ensures { result ≡ set.empty }
+    {
+        NodeSet { words: [0; 1] }
+    }
+
+    /// Whether the node is in the set.
+    pub fn has(&self, node: u8) -> bool
+        requires { node < 64 }
+        ensures { result ≡ set.contains self.now node }
+    {
+        bit_is_set(&self.words, node as u16)
+    }
+
+    /// The same set once more.
+    pub fn copy(&self) -> NodeSet
+        ensures { result ≡ self.now }
+    {
+        NodeSet { words: self.words }
+    }
+
+    /// The set with this node in it.
+    pub fn with(mut self, node: u8) -> NodeSet
+        requires { node < 64 }
+        ensures { result ≡ set.insert self node }
+    {
+        set_bit(&mut self.words, node as u16);
+        self
     }
 }
 

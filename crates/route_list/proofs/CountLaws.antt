@@ -13,11 +13,11 @@ use Rattle.eon_model.specs.Network.{Network}
 use Rattle.eon_model.specs.Routes.{lists_of_fibres}
 use Rattle.eon_model.proofs.OrderLaws.{IsIn}
 use Rattle.eon_model.proofs.RouteLaws.{EndsAreNodes, walks-listed}
-use Rattle.route_list.specs.declared.walk.Stand.{Stand}
+use Rattle.net_graph.specs.declared.walk.Stand.{Stand}
 use Rattle.route_list.specs.declared.walk.Walk.{Walk}
-use Rattle.route_list.specs.Walks.{start, stand_after}
+use Rattle.net_graph.specs.Stands.{start, stand_after}
 use Rattle.route_list.specs.Search.{IsLeft, walk_cmp, count_from, to_search}
-use Rattle.route_list.proofs.StandLaws.{walks-from}
+use Rattle.net_graph.proofs.StandLaws.{walks-from}
 use Rattle.route_list.proofs.WalkOrder.{walk_cmp_total}
 
 -- ---- counts

@@ -6,14 +6,16 @@ use Rattle.std.proofs.lemmas.Bool.{and_parts}
 use Rattle.std.proofs.lemmas.List.{append-nil}
 use Rattle.eon_model.specs.Network.{Network}
 use Rattle.eon_model.specs.Route.{Route, route_of}
-use Rattle.eon_model.specs.Routes.{route_cmp, is_open, is_open_route, first_routes, RoutesAscend, IsAmong}
+use Rattle.eon_model.specs.Lists.{IsAmong}
+use Rattle.eon_model.specs.Routes.{route_cmp, is_open, is_open_route, first_routes, RoutesAscend}
 use Rattle.eon_model.proofs.OrderLaws.{IsIn, AllOf, Ascends, IsInOrLater, route_cmp_total}
 use Rattle.eon_model.proofs.FirstRoutesLaws.{is_route-route_of, first_routes-unique}
 use Rattle.net_graph.specs.Graph.{is_graph}
 use Rattle.route_list.specs.declared.walk.Walk.{Walk}
 use Rattle.route_list.specs.Search.{IsLeft, Searched, walk_cmp}
-use Rattle.route_list.proofs.WalkOrder.{walk-before_longer, graph-ends, graph-rise}
-use Rattle.route_list.proofs.StandLaws.{walks-back}
+use Rattle.route_list.proofs.WalkOrder.{walk-before_longer, graph-rise}
+use Rattle.net_graph.proofs.RouteSums.{graph-ends}
+use Rattle.net_graph.proofs.StandLaws.{walks-back}
 use Rattle.route_list.proofs.SearchLaws.{all_of, before_next, left-good, open_fibres, open_route}
 
 ascends : (net : Network) (rs : List Route) → RoutesAscend net rs → Ascends (route_cmp net) rs

@@ -12,11 +12,12 @@ use Rattle.std.proofs.lemmas.Bool.{and_parts, not-true, false≢true, cases_lt}
 use Rattle.std.proofs.lemmas.List.Folds.{list_any-append}
 use Rattle.eon_model.specs.Network.{Network, fibre_at}
 use Rattle.eon_model.specs.Route.{km_of}
-use Rattle.route_list.specs.declared.walk.Stand.{Stand}
+use Rattle.net_graph.specs.declared.walk.Stand.{Stand}
 use Rattle.route_list.specs.declared.walk.Walk.{Walk}
-use Rattle.route_list.specs.Walks.{start, moved, stand_after, leads_on, is_open_walk, walk_order}
+use Rattle.net_graph.specs.Stands.{start, moved, stand_after}
+use Rattle.route_list.specs.Walks.{leads_on, is_open_walk, walk_order}
 use Rattle.route_list.specs.Search.{IsGood, IsLeft, Grown}
-use Rattle.route_list.proofs.StandLaws.{stand-last}
+use Rattle.net_graph.proofs.StandLaws.{stand-last}
 use Rattle.route_list.proofs.WalkOrder.{km-append}
 
 -- ---- one walk put in

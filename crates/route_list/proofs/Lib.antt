@@ -1,4 +1,3 @@
-pub mod StandLaws
 pub mod WalkOrder
 pub mod CountLaws
 pub mod SearchLaws

@@ -9,14 +9,16 @@ use Rattle.std.proofs.lemmas.List.Folds.{list_any-append, list_all-append}
 use Rattle.eon_model.specs.Names.{ascend}
 use Rattle.eon_model.specs.Network.{Network, AreFibres, fibre_names}
 use Rattle.eon_model.specs.Route.{Route, route_of, km_of, walks}
-use Rattle.eon_model.specs.Routes.{route_cmp, is_open, is_open_route, RoutesAscend, IsAmong}
+use Rattle.eon_model.specs.Lists.{IsAmong}
+use Rattle.eon_model.specs.Routes.{route_cmp, is_open, is_open_route, RoutesAscend}
 use Rattle.eon_model.proofs.OrderLaws.{AllOf, route_cmp_total}
 use Rattle.eon_model.proofs.FirstRoutesLaws.{is_route-route_of, route_of-is_route}
-use Rattle.route_list.specs.declared.walk.Stand.{Stand}
+use Rattle.net_graph.specs.declared.walk.Stand.{Stand}
 use Rattle.route_list.specs.declared.walk.Walk.{Walk}
-use Rattle.route_list.specs.Walks.{start, stand_after, is_open_walk}
+use Rattle.net_graph.specs.Stands.{start, stand_after}
+use Rattle.route_list.specs.Walks.{is_open_walk}
 use Rattle.route_list.specs.Search.{IsGood, IsLeft, IsBegun, Grown, Searched, walk_cmp}
-use Rattle.route_list.proofs.StandLaws.{stand-parts, stand-fibres, walks-parts, walks-end}
+use Rattle.net_graph.proofs.StandLaws.{stand-parts, stand-fibres, walks-parts, walks-end}
 use Rattle.route_list.proofs.WalkOrder.{km-append, route_cmp-walks, walk-before_longer}
 
 -- ---- lists

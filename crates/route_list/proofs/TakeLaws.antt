@@ -9,10 +9,11 @@ use Rattle.eon_model.specs.Network.{Network}
 use Rattle.eon_model.specs.Route.{Route, route_of, walks}
 use Rattle.net_graph.specs.Graph.{is_graph}
 use Rattle.net_graph.specs.Walks.{route_from}
+use Rattle.net_graph.proofs.RouteSums.{graph-ends}
 use Rattle.route_list.specs.declared.walk.Walk.{Walk}
 use Rattle.route_list.specs.Walks.{walk_order}
 use Rattle.route_list.specs.Search.{IsGood, IsLeft, Grown, Searched, walk_cmp, to_search}
-use Rattle.route_list.proofs.WalkOrder.{walk_order-fibres, graph-ends, graph-rise}
+use Rattle.route_list.proofs.WalkOrder.{walk_order-fibres, graph-rise}
 use Rattle.route_list.proofs.SearchLaws.{open-stand, searched-taken, searched-grown, grown_after}
 use Rattle.route_list.proofs.CountLaws.{walk-listed, to_search-less}
 

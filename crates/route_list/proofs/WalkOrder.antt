@@ -60,21 +60,5 @@ walk_order-fibres net v w e h =
 
 -- ---- what the network gives
 
-ends_in : (nodes : List (List ℕ)) (fs : List Fibre) → list_all (is_fibre_among nodes) fs ≡ true →
-    AllOf (λ f. (f.a < length nodes) × (f.b < length nodes)) fs
-ends_in nodes [] h = tt
-ends_in nodes (f ∷ fs) h =
-    let p = and_parts (is_fibre_among nodes f) (list_all (is_fibre_among nodes) fs) h in
-    let a = and_parts (is_name f.name && nat_lt f.a (length nodes) && nat_lt f.b (length nodes)
-    && not (nat_eq f.a f.b)) (is_within 1 100000 f.km) p.0 in
-    let b = and_parts (is_name f.name && nat_lt f.a (length nodes) && nat_lt f.b (length nodes))
-    (not (nat_eq f.a f.b)) a.0 in
-    let c = and_parts (is_name f.name && nat_lt f.a (length nodes)) (nat_lt f.b (length nodes)) b.0 in
-    let d = and_parts (is_name f.name) (nat_lt f.a (length nodes)) c.0 in
-    ((ltb-true f.a (length nodes) d.1, ltb-true f.b (length nodes) c.1), ends_in nodes fs p.1)
-
-pub graph-ends : (net : Network) → is_graph net ≡ true → EndsAreNodes net
-graph-ends net h = ends_in net.nodes net.fibres (parts_of net h).fibres_good
-
 pub graph-rise : (net : Network) → is_graph net ≡ true → ascend (fibre_names net.fibres) ≡ true
 graph-rise net h = (parts_of net h).fibres_rise

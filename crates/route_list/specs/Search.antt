@@ -5,9 +5,10 @@ use Rattle.std.specs.declared.cmp.Ordering.{Ordering}
 use Rattle.std.specs.declared.cmp.Ordering.TheVariants.{Less}
 use Rattle.std.specs.Ordering.{nat_cmp, ordering_then, is_gt}
 use Rattle.std.specs.Cmp.Lexicographic.{slice_cmp}
+use Rattle.eon_model.specs.Lists.{IsAmong}
 use Rattle.eon_model.specs.Network.{Network}
 use Rattle.eon_model.specs.Route.{Route, km_of, route_of}
-use Rattle.eon_model.specs.Routes.{route_cmp, is_open_route, lists_of_fibres, RoutesAscend, IsAmong}
+use Rattle.eon_model.specs.Routes.{route_cmp, is_open_route, lists_of_fibres, RoutesAscend}
 use Rattle.route_list.specs.declared.walk.Walk.{Walk}
 use Rattle.route_list.specs.Walks.{is_open_walk}
 

@@ -1,35 +1,14 @@
 -- Walks from a node, fibre by fibre, and where they stand.
 use Rattle.std.specs.Prelude.{ℕ, ◌+◌, Bool, ◌&&◌, not, nat_le, List, [], ◌∷◌, map, Option, Some, None, is_some, if◌then◌else◌}
-use Rattle.std.specs.Option.{option_and_then}
 use Rattle.std.specs.List.{list_any}
-use Rattle.std.specs.FinSet.{empty, insert}
 use Rattle.std.specs.declared.cmp.Ordering.{Ordering}
 use Rattle.std.specs.Ordering.{nat_cmp, ordering_then}
 use Rattle.std.specs.Cmp.Lexicographic.{slice_cmp}
-use Rattle.eon_model.specs.Sets.{NumberSet, has_member}
-use Rattle.eon_model.specs.Network.{Network, Fibre, fibre_at}
+use Rattle.eon_model.specs.Network.{Network, fibre_at}
 use Rattle.eon_model.specs.Route.{km_of}
-use Rattle.net_graph.specs.Walks.{node_after}
-use Rattle.route_list.specs.declared.walk.Stand.{Stand}
+use Rattle.net_graph.specs.Stands.{start, moved, stand_after}
+use Rattle.net_graph.specs.declared.walk.Stand.{Stand}
 use Rattle.route_list.specs.declared.walk.Walk.{Walk}
-
--- at this node, before the first fibre
-abbrev pub start : ℕ → Stand
-start node = record { node = node; visited = insert empty node }
-
--- at a node that is new
-abbrev pub arrive : NumberSet → ℕ → Option Stand
-arrive visited next =
-    if has_member visited next then None else Some (record { node = next; visited = insert visited next })
-
--- one fibre further
-abbrev pub moved : List Fibre → Stand → ℕ → Option Stand
-moved fibres stand fibre = option_and_then (arrive stand.visited) (node_after fibres stand.node fibre)
-
--- where the walk of these fibres stands, if they lead on and visit no node twice
-abbrev pub stand_after : List Fibre → Stand → List ℕ → Option Stand
-stand_after fibres stand [] = Some stand
-stand_after fibres stand (i ∷ is) = option_and_then (λ next. stand_after fibres next is) (moved fibres stand i)
 
 -- whether a walk of this length that stands there can go on by the fibre
 abbrev pub leads_on : Network → Stand → ℕ → (ℕ → Bool) → ℕ → ℕ → Bool

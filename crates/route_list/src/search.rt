@@ -5,12 +5,13 @@ ghost use Rattle.std.specs.BTreeMap.Range.{IsLtBy};
 ghost use Rattle.eon_model.specs.Routes.{first_routes};
 ghost use Rattle.eon_model.specs.Sets.{has_member};
 ghost use Rattle.net_graph.specs.Graph.{is_graph};
-ghost use Rattle.route_list.specs.Walks.{start, stand_after, walk_order};
+ghost use Rattle.net_graph.specs.Stands.{start, stand_after};
+ghost use Rattle.route_list.specs.Walks.{walk_order};
 ghost use Rattle.route_list.specs.Search.{IsGood, Grown, Searched, to_search};
 
-use crate::walk::{Ask, Stand, Walk, goes_on, stand_at};
+use crate::walk::{Ask, Walk, goes_on};
 use eon_base::steps::Steps;
-use net_graph::{FibreSet, Net, Route, RouteList};
+use net_graph::{FibreSet, Net, Route, RouteList, Stand, stand_at};
 use std::alloc::{AllocError, Global};
 use std::collections::BTreeSet;
 use std::sync::ledger::Ledger;
@@ -49,6 +50,7 @@ fn grow(
     walk: &Walk,
     left: &mut BTreeSet<Walk>,
 ) -> Result<(), AllocError>
+    requires source { ask.s < 64 }
     requires good { IsGood net.now ask.s (has_member banned.now) ask.max_km walk.now }
     ensures grown { OnOk result (Grown net.now ask.s (has_member banned.now) ask.max_km walk.now.fibres.items (length net.now.fibres) left.old.keys left.new.keys) }
 {
@@ -72,6 +74,7 @@ fn take_up(
     left: &mut BTreeSet<Walk>,
     routes: &mut Vec<Route>,
 ) -> Result<(), AllocError>
+    requires source { ask.s < 64 }
     requires graph { IsTrue (is_graph net.now) }
     requires searched { Searched net.now ask.s ask.t (has_member banned.now) ask.max_km routes.old.items (walk.now ∷ left.old.keys) }
     requires least { All (IsLtBy walk_order walk.now) left.old.keys }
@@ -90,7 +93,7 @@ fn take_up(
 
 /// The first `k` routes from `s` to `t` without a banned fibre and at most `max_km` long, in order: the shorter first,
 /// and of one length the one whose list of names comes first. All of them where there are fewer. Each walk that is
-/// taken up is one step.
+/// taken up is one step, so there are at least as many steps as routes.
 pub fn routes<L: Ledger>(
     alloc: Global,
     net: &Net,
@@ -105,6 +108,7 @@ pub fn routes<L: Ledger>(
     requires target { t < length net.now.nodes }
     ensures routes { IfOk result (λ rs. rs ≡ first_routes net.now s t (has_member banned.now) k max_km) }
     ensures counted { steps.old ≤ steps.new }
+    ensures least { IfOk result (λ rs. steps.old + length rs ≤ steps.new) }
 {
     let _ = net.fibres();
     let mut routes = Vec::new(alloc);

@@ -1,12 +1,11 @@
-//! Walks: fibres that lead on from one another, and the nodes that they visit.
+//! Walks: fibres that lead on from one another, with their length.
 
 ghost use Rattle.std.specs.Prelude.{◌≡◌, ℕ, ◌+◌, ◌<◌, ◌≤◌, List, [], ◌∷◌, ◌++◌, length, IfOk, Option};
 ghost use Rattle.eon_model.specs.Network.{fibre_at};
 ghost use Rattle.eon_model.specs.Sets.{has_member};
-ghost use Rattle.net_graph.specs.Walks.{node_after};
-ghost use Rattle.route_list.specs.Walks.{start, moved, stand_after, leads_on};
+ghost use Rattle.route_list.specs.Walks.{leads_on};
 
-use net_graph::{FibreSet, Net, RiskSet};
+use net_graph::{FibreSet, Net, Stand};
 use std::alloc::{AllocError, Global};
 
 /// The fibres of a walk in order, by number, after its length in km. The shorter of two walks is less, and of two
@@ -17,77 +16,12 @@ pub(crate) struct Walk {
     pub(crate) fibres: Vec<u8>,
 }
 
-/// Where a walk stands, and the nodes that it has visited, this one among them.
-#[derive(Drop)]
-pub(crate) struct Stand {
-    pub(crate) node: u8,
-    // Nodes have numbers below 256, as risks have.
-    pub(crate) visited: RiskSet,
-}
-
 /// What a search asks of routes: where they begin and end, and how long they are at most.
 #[derive(Clone, Copy)]
 pub(crate) struct Ask {
     pub(crate) s: u8,
     pub(crate) t: u8,
     pub(crate) max_km: u32,
-}
-
-impl Stand {
-    // At this node, before the first fibre.
-    fn at(node: u8) -> Stand
-        ensures { result ≡ start node }
-    {
-        Stand {
-            node,
-            visited: RiskSet::empty().with(node as u16),
-        }
-    }
-}
-
-// The node to which the fibre leads from this node; None where it is not one of its ends, or no fibre.
-fn next_node(net: &Net, node: u8, number: u8) -> Option<u8>
-    ensures { result ≡ node_after net.now.fibres node number }
-{
-    if number >= net.fibres() {
-        return None;
-    }
-    let fibre = net.fibre(number);
-    if fibre.a == node {
-        Some(fibre.b)
-    } else if fibre.b == node {
-        Some(fibre.a)
-    } else {
-        None
-    }
-}
-
-// One fibre further; None where the fibre does not lead on, or leads to a node that was visited before.
-fn step(net: &Net, stand: &Stand, fibre: u8) -> Option<Stand>
-    ensures { result ≡ moved net.now.fibres stand.now fibre }
-{
-    let next = next_node(net, stand.node, fibre)?;
-    if stand.visited.has(next as u16) {
-        return None;
-    }
-    Some(Stand {
-        node: next,
-        visited: stand.visited.copy().with(next as u16),
-    })
-}
-
-/// Where a walk of these fibres from this node stands; None where they do not lead on, or visit a node twice.
-pub(crate) fn stand_at(net: &Net, node: u8, fibres: &[u8]) -> Option<Stand>
-    ensures { result ≡ stand_after net.now.fibres (start node) fibres.now }
-{
-    let mut stand = Stand::at(node);
-    for fibre in fibres {
-        match step(net, &stand, *fibre) {
-            Some(next) => stand = next,
-            None => return None,
-        }
-    }
-    Some(stand)
 }
 
 /// Whether a walk of this length that stands there can go on by the fibre: it leads to a new node, is not banned, and
@@ -105,7 +39,7 @@ pub(crate) fn goes_on(
     requires within { km ≤ max_km }
     ensures { result ≡ leads_on net.now stand.now km (has_member banned.now) max_km fibre }
 {
-    step(net, stand, fibre).is_some() && !banned.has(fibre) && net.fibre(fibre).km <= max_km - km
+    stand.step(net, fibre).is_some() && !banned.has(fibre) && net.fibre(fibre).km <= max_km - km
 }
 
 // The numbers with one more at the end.

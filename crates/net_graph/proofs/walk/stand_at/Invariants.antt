@@ -1,6 +1,6 @@
 use Rattle.std.proofs.Common.{◌≡◌, drop}
-use Rattle.route_list.specs.Walks.{start, stand_after}
-use Rattle.route_list.proofs.walk.stand_at.Given as goal
+use Rattle.net_graph.specs.Stands.{start, stand_after}
+use Rattle.net_graph.proofs.walk.stand_at.Given as goal
 
 abbrev pub invariant-loop-fibre : goal.invariant-loop-fibre
 invariant-loop-fibre l =

@@ -4,14 +4,16 @@ use Rattle.std.specs.Option.{option_and_then, option_map_or}
 use Rattle.std.specs.Cmp.{nat_cmp_total, unsigned_tied}
 use Rattle.std.specs.FinSet.{contains, insert, contains-insert, empty}
 use Rattle.std.proofs.lemmas.Bool.{or_left, or_parts, eq-eqb, eqb-true, false≢true}
-use Rattle.eon_model.specs.Network.{Fibre, AreFibres}
+use Rattle.eon_model.specs.Network.{Network, Fibre, AreFibres}
 use Rattle.eon_model.specs.Route.{far_end, walks}
 use Rattle.eon_model.specs.Sets.{NumberSet}
 use Rattle.eon_model.proofs.ListLaws.{slice_get_in}
+use Rattle.eon_model.proofs.RouteLaws.{EndsAreNodes}
 use Rattle.net_graph.specs.Walks.{node_after}
+use Rattle.net_graph.proofs.RouteSums.{node_after-nodes}
 use Rattle.net_graph.proofs.WalkLemmas.{goes, walks-begun}
-use Rattle.route_list.specs.declared.walk.Stand.{Stand}
-use Rattle.route_list.specs.Walks.{start, arrive, moved, stand_after}
+use Rattle.net_graph.specs.declared.walk.Stand.{Stand}
+use Rattle.net_graph.specs.Stands.{start, arrive, moved, stand_after}
 
 -- ---- one fibre after another
 
@@ -168,7 +170,7 @@ stand-fibres fibres stand m (i ∷ p) e =
 
 -- ---- walks, as the model has them
 
-abbrev stands_at : ℕ → Option Stand → Bool
+abbrev pub stands_at : ℕ → Option Stand → Bool
 stands_at t None = false
 stands_at t (Some m) = m.node == t
 
@@ -198,10 +200,9 @@ goes-stand fibres seen node t (i ∷ is) =
 some_length : (i : ℕ) (p : List ℕ) → length (i ∷ p) ≡ 0 → ⊥
 some_length i p e = absurd (omega (arith, e))
 
-walks-stand : (fibres : List Fibre) (s t i : ℕ) (p : List ℕ) →
-    walks fibres s t (i ∷ p) ≡ stands_at t (stand_after fibres (start s) (i ∷ p))
-walks-stand fibres s t i p =
-    walks-begun fibres s t (i ∷ p) (some_length i p) ∙ goes-stand fibres (insert empty s) s t (i ∷ p)
+pub walks-stand : (fibres : List Fibre) (s t : ℕ) (p : List ℕ) → (length p ≡ 0 → ⊥) →
+    walks fibres s t p ≡ stands_at t (stand_after fibres (start s) p)
+walks-stand fibres s t p some = walks-begun fibres s t p some ∙ goes-stand fibres (insert empty s) s t p
 
 stands_parts : (t : ℕ) (o : Option Stand) → stands_at t o ≡ true → (m : Stand) × (o ≡ Some m) × (m.node ≡ t)
 stands_parts t None h = absurd (false≢true h)
@@ -212,13 +213,13 @@ pub walks-parts : (fibres : List Fibre) (s t : ℕ) (p : List ℕ) → walks fib
     (m : Stand) × (stand_after fibres (start s) p ≡ Some m) × (m.node ≡ t)
 walks-parts fibres s t [] h = absurd (false≢true h)
 walks-parts fibres s t (i ∷ p) h =
-    stands_parts t (stand_after fibres (start s) (i ∷ p)) (sym (walks-stand fibres s t i p) ∙ h)
+    stands_parts t (stand_after fibres (start s) (i ∷ p)) (sym (walks-stand fibres s t (i ∷ p) (some_length i p)) ∙ h)
 
 -- what stands somewhere walks there
 pub walks-from : (fibres : List Fibre) (s i : ℕ) (p : List ℕ) (m : Stand) →
     stand_after fibres (start s) (i ∷ p) ≡ Some m → walks fibres s m.node (i ∷ p) ≡ true
 walks-from fibres s i p m e =
-    walks-stand fibres s m.node i p ∙ ap (stands_at m.node) e ∙ eq-eqb m.node m.node refl
+    walks-stand fibres s m.node (i ∷ p) (some_length i p) ∙ ap (stands_at m.node) e ∙ eq-eqb m.node m.node refl
 
 -- a walk to t goes on to no other walk to t
 visits_again : (fibres : List Fibre) (n k : Stand) (q : List ℕ) → contains n.visited n.node ≡ true →
@@ -246,3 +247,16 @@ walks-back fibres s (i ∷ p) h =
     let a = walks-parts fibres s s (i ∷ p) h in
     false≢true (sym (ap (contains (insert empty s)) (sym a.2)
     ∙ stand-new fibres (start s) a.0 i p a.1) ∙ visited-insert empty s)
+
+-- nothing walks from where no node is
+pub walks-nowhere : (net : Network) (s t : ℕ) (p : List ℕ) → EndsAreNodes net → (s < length net.nodes → ⊥) →
+    walks net.fibres s t p ≡ false
+walks-nowhere net s t [] ends out = refl
+walks-nowhere net s t (i ∷ p) ends out =
+    walks-stand net.fibres s t (i ∷ p) (some_length i p) ∙ by (node_after net.fibres s i) refl
+  where
+    by : (o : Option ℕ) → node_after net.fibres s i ≡ o →
+        stands_at t (option_and_then (λ next. stand_after net.fibres next p)
+        (option_and_then (arrive (insert empty s)) o)) ≡ false
+    by None e = refl
+    by (Some next) e = absurd (out (node_after-nodes net ends s i next e).0)
