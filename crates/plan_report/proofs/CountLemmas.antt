@@ -1,28 +1,29 @@
 -- Counts that grow by what some holdings hold.
-use Rattle.std.proofs.Common.{◌≡◌, refl, sym, ap, ◌∙◌, add-one, ℕ, zero, suc, ◌+◌, ◌*◌, ◌<◌, ◌≤◌, nat_le, nat_lt, ℤ, pos, ◌+ℤ◌, ◌-ℤ◌, Bool, true, false, cond, ◌&&◌, ◌||◌, List, [], ◌∷◌, ◌++◌, length, take, Option, Some, None, slice_get, slice_index, count_by, sum_by, map, append_assoc, length-append, arith}
+use Rattle.std.proofs.Common.{◌≡◌, refl, sym, ap, ◌∙◌, add-one, ℕ, zero, suc, ◌+◌, ◌*◌, ◌<◌, ◌≤◌, nat_le, nat_lt, ℤ, pos, ◌+ℤ◌, ◌-ℤ◌, ◌≤ℤ◌, Bool, true, false, cond, ◌&&◌, ◌||◌, List, [], ◌∷◌, ◌++◌, length, take, Option, Some, None, slice_get, slice_index, count_by, sum_by, map, append_assoc, length-append, arith}
 use Rattle.std.specs.Prelude.{int_le}
 use Rattle.std.specs.Option.{option_to_list}
 use Rattle.std.specs.Int.{int_min, int_max}
-use Rattle.std.specs.List.{flat_map, list_any, range_with_len}
-use Rattle.std.proofs.lemmas.Bool.{leb-true, ltb-true, le-leb, lt-ltb}
+use Rattle.std.specs.List.{flat_map, list_all, list_any, range_with_len}
+use Rattle.std.proofs.lemmas.Bool.{and_parts, false≢true, leb-true, ltb-true, le-leb, lt-ltb}
 use Rattle.std.proofs.lemmas.Int.{ints, clamps}
 use Rattle.std.proofs.lemmas.List.Sums.{sum_by-append, sum_by-cons, sum_by_push, sum_by_more, count_by-le-length}
-use Rattle.std.proofs.lemmas.List.{map-append}
 use Rattle.std.proofs.lemmas.Grind.{flat_map-append}
 use Rattle.std.proofs.lemmas.Option.{slice_get_within, get_or_from_slice_get}
-use Rattle.eon_model.specs.Grid.{Units, has_unit}
-use Rattle.eon_model.specs.Legal.{Setup, Legal}
+use Rattle.eon_model.specs.declared.Class.{Class}
+use Rattle.eon_model.specs.Grid.{Units, Band, has_unit, is_units, parts_ascend, span_from, span_of, is_band}
+use Rattle.eon_model.proofs.BandLaws.{band-parts}
+use Rattle.flex_grid.proofs.GridFacts.{units-facts}
+use Rattle.eon_model.specs.Legal.{Setup, Legal, is_shared, is_dual}
 use Rattle.eon_model.specs.NetworkText.{is_setup}
 use Rattle.eon_model.proofs.LegalLaws.{Legal-parts}
-use Rattle.eon_model.specs.Names.{Name}
 use Rattle.eon_model.specs.Lists.{integers_from}
-use Rattle.eon_model.specs.Services.{Path, Leg, Service, State, Holding, OwnedLeg, owned_legs, all_legs, holding_of, working_holding, backup_holdings}
-use Rattle.eon_model.specs.Listings.{holds, working_holdings, all_backups}
+use Rattle.eon_model.specs.Services.{Path, Leg, Service, State, Holding, owned, owned_legs, all_legs, holding_of}
+use Rattle.eon_model.specs.Listings.{holds}
 use Rattle.eon_model.proofs.GridLaws.{int_le-le, le-int_le}
 use Rattle.plan_report.specs.declared.rows.Kind.{Kind}
-use Rattle.plan_report.specs.declared.rows.Kind.TheVariants.{Work, Backup}
-use Rattle.plan_report.proofs.SetupFacts.{setup-facts}
-use Rattle.plan_report.specs.Counted.{held_by, service_holdings, state_holdings, holders, Grows, AtMost}
+use Rattle.plan_report.specs.declared.rows.Kind.TheVariants.{Lit, Held}
+use Rattle.eon_model.proofs.SetupFacts.{setup-facts}
+use Rattle.plan_report.specs.Counted.{taken, taken_by, service_holdings, state_holdings, holders, Grows, AtMost}
 
 pub same_tests : (a b : Bool) → (a ≡ true → b ≡ true) → (b ≡ true → a ≡ true) → a ≡ b
 same_tests true b f g = sym (f refl)
@@ -89,27 +90,31 @@ flat_map-take f (y ∷ ys) zero x e = let same : y ≡ x = cc in ap (λ z. f z +
 flat_map-take f (y ∷ ys) (suc i) x e =
     ap (λ zs. f y ++ zs) (flat_map-take f ys i x e) ∙ sym (append_assoc (f y) (flat_map f (take i ys)) (f x))
 
-held_most : (kind : Kind) (l : Leg) → length (held_by kind l) ≤ 1
-held_most Work l = omega arith
-held_most Backup l = backs l.back
+backups_most : (counts : Bool) (b : Option Path) → length (cond counts (map holding_of (option_to_list b)) []) ≤ 1
+backups_most true None = omega arith
+backups_most true (Some p) = omega arith
+backups_most false b = omega arith
+
+taken_most : (kind : Kind) (class : Class) (l : Leg) → length (taken kind class l) ≤ 2
+taken_most Lit class l = let h = backups_most (is_dual class) l.back in omega arith
+taken_most Held class l = let h = backups_most (is_shared class) l.back in omega arith
+
+service_most : (kind : Kind) (s : Service) → length (service_holdings kind s) ≤ 4
+service_most kind s = legs s.next
   where
-    backs : (b : Option Path) → length (map holding_of (option_to_list b)) ≤ 1
-    backs None = omega arith
-    backs (Some p) = omega arith
+    legs : (next : Option Leg) → length (flat_map (taken_by kind) (map (owned s.name s.class) (s.leg ∷ option_to_list next))) ≤ 4
+    legs None =
+        let a = taken_most kind s.class s.leg in omega (arith, length-append (taken kind s.class s.leg) [])
+    legs (Some n) =
+        let a = taken_most kind s.class s.leg in
+        let b = taken_most kind s.class n in
+        omega (
+          arith,
+          length-append (taken kind s.class s.leg) (taken kind s.class n ++ []),
+          length-append (taken kind s.class n) [],
+        )
 
-legs_most : (kind : Kind) (l : Leg) (next : Option Leg) →
-    length (flat_map (held_by kind) (l ∷ option_to_list next)) ≤ 2
-legs_most kind l None =
-    let a = held_most kind l in omega (arith, length-append (held_by kind l) [])
-legs_most kind l (Some n) =
-    let a = held_most kind l in
-    let b = held_most kind n in
-    omega (arith, length-append (held_by kind l) (held_by kind n ++ []), length-append (held_by kind n) [])
-
-pub service_most : (kind : Kind) (s : Service) → length (service_holdings kind s) ≤ 2
-service_most kind s = legs_most kind s.leg s.next
-
-pub state_most : (kind : Kind) (state : State) (i : ℕ) → length (state_holdings kind (take i state)) ≤ 2 * i
+pub state_most : (kind : Kind) (state : State) (i : ℕ) → length (state_holdings kind (take i state)) ≤ 4 * i
 state_most kind [] zero = omega arith
 state_most kind [] (suc i) = omega arith
 state_most kind (s ∷ ss) zero = omega arith
@@ -118,31 +123,12 @@ state_most kind (s ∷ ss) (suc i) =
     let more = state_most kind ss i in
     omega (arith, length-append (service_holdings kind s) (state_holdings kind (take i ss)))
 
-work_one : (name : Name) (l : Leg) (next : Option Leg) →
-    map (λ o. working_holding o.leg) (map (λ k. let o : OwnedLeg = record { owner = name; leg = k } in o) (l ∷ option_to_list next))
-    ≡ flat_map (held_by Work) (l ∷ option_to_list next)
-work_one name l None = refl
-work_one name l (Some n) = refl
-
--- all that working paths hold
-pub work_same : (state : State) → working_holdings state ≡ state_holdings Work state
-work_same [] = refl
-work_same (s ∷ ss) =
-    map-append (λ (o : OwnedLeg). working_holding o.leg) (owned_legs s) (all_legs ss)
-    ∙ (λ i. work_one s.name s.leg s.next i ++ work_same ss i)
-
-back_one : (name : Name) (l : Leg) (next : Option Leg) →
-    flat_map (λ o. backup_holdings o.leg) (map (λ k. let o : OwnedLeg = record { owner = name; leg = k } in o) (l ∷ option_to_list next))
-    ≡ flat_map (held_by Backup) (l ∷ option_to_list next)
-back_one name l None = refl
-back_one name l (Some n) = refl
-
--- all that backups hold
-pub backup_same : (state : State) → all_backups state ≡ state_holdings Backup state
-backup_same [] = refl
-backup_same (s ∷ ss) =
-    flat_map-append (λ (o : OwnedLeg). backup_holdings o.leg) (owned_legs s) (all_legs ss)
-    ∙ (λ i. back_one s.name s.leg s.next i ++ backup_same ss i)
+-- what all legs take, service by service
+pub kind_same : (kind : Kind) (state : State) → flat_map (taken_by kind) (all_legs state) ≡ state_holdings kind state
+kind_same kind [] = refl
+kind_same kind (s ∷ ss) =
+    flat_map-append (taken_by kind) (owned_legs s) (all_legs ss)
+    ∙ ap (λ hs. service_holdings kind s ++ hs) (kind_same kind ss)
 
 -- ---- counts by unit
 
@@ -221,3 +207,37 @@ few_services setup state h l =
     let few = (Legal-parts setup state l).few in
     let most = (setup-facts setup h).few_services in
     omega arith
+
+-- ---- the units of a band
+
+span_order : (part : Units) (parts : List Units) → list_all is_units (part ∷ parts) ≡ true →
+    parts_ascend (part ∷ parts) ≡ true → part.lo ≤ℤ (span_from part parts).hi
+span_order part [] units ascend = (units-facts part (and_parts (is_units part) true units).0).order
+span_order part (next ∷ parts) units ascend =
+    let a = and_parts (is_units part) (list_all is_units (next ∷ parts)) units in
+    let b = and_parts (int_le (part.hi +ℤ pos 2) next.lo) (parts_ascend (next ∷ parts)) ascend in
+    let here = (units-facts part a.0).order in
+    let gap = int_le-le (part.hi +ℤ pos 2) next.lo b.0 in
+    let more = span_order next parts a.1 b.1 in
+    omega (arith, ints)
+
+span_lo : (part : Units) (parts : List Units) → (span_from part parts).lo ≡ part.lo
+span_lo part [] = refl
+span_lo part (next ∷ parts) = refl
+
+-- Its span holds one unit or more, and at most 1,024.
+pub record SpanFacts (u : Units) : Type 0 where
+  pub order : u.lo ≤ℤ u.hi
+  pub wide : (u.hi -ℤ u.lo) ≤ℤ pos 1023
+
+pub span_facts : (band : Band) → is_band band ≡ true → SpanFacts (span_of band)
+span_facts [] h = absurd (false≢true h)
+span_facts (part ∷ parts) h =
+    let b : Band = part ∷ parts in
+    let facts = band-parts b h in
+    let wide = and_parts (nat_le 1 (length b) && nat_le (length b) 8 && list_all is_units b && parts_ascend b)
+    (int_le ((span_of b).hi -ℤ (span_of b).lo) (pos 1023)) h in
+    record {
+      order = let e = span_order part parts facts.units facts.ascend in let l = span_lo part parts in omega (arith, ints);
+      wide = int_le-le ((span_of b).hi -ℤ (span_of b).lo) (pos 1023) wide.1;
+    }

@@ -4,7 +4,7 @@ use Rattle.std.specs.Prelude.{IfSome, nat_le, slice_get}
 use Rattle.std.specs.Option.{option_map, option_and_then, option_to_list}
 use Rattle.std.specs.List.{list_all}
 use Rattle.std.proofs.lemmas.Bool.{and_parts, false≢true, eqb-true}
-use Rattle.eon_model.specs.Grid.{units_of, lies_in}
+use Rattle.eon_model.specs.Grid.{units_of, lies_in_band}
 use Rattle.eon_model.specs.Names.{Name, same_name}
 use Rattle.eon_model.specs.Network.{Network, AreFibres}
 use Rattle.eon_model.specs.Route.{walks, is_route, nodes_along, ends_at, visits_once, far_end, share_group}
@@ -73,7 +73,7 @@ path-on : (setup : Setup) (s : Service) (p : Path) → is_setup setup ≡ true �
 path-on setup s p ok h =
     let net = setup.network in
     let a = and_parts (is_route net s.src s.dst p.route && nat_le 1 p.slot.m
-    && is_exactly (need_of setup s.rate p.route.km) p.slot.m) (lies_in setup.band (units_of p.slot)) h in
+    && is_exactly (need_of setup s.rate p.route.km) p.slot.m) (lies_in_band setup.band (units_of p.slot)) h in
     let b = and_parts (is_route net s.src s.dst p.route && nat_le 1 p.slot.m)
     (is_exactly (need_of setup s.rate p.route.km) p.slot.m) a.0 in
     let c = and_parts (is_route net s.src s.dst p.route) (nat_le 1 p.slot.m) b.0 in

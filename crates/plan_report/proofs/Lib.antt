@@ -1,9 +1,6 @@
-pub mod SetupFacts
 pub mod CountLemmas
 pub mod MapLemmas
-pub mod WordLemmas
 pub mod InRangeLaws
 pub mod PlainLemmas
 pub mod ReportLemmas
 pub mod EmptyLaws
-pub mod EnterLaws

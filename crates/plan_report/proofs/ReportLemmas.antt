@@ -12,13 +12,13 @@ use Rattle.serde_json.specs.Data.{Data, array, object, Members, no_members, memb
 use Rattle.serde_json.specs.View.{items_of, view}
 use Rattle.serde_json.specs.declared.value.Value.{Value}
 use Rattle.serde_json.proofs.OnLiterals.{serde_json_on_literals}
-use Rattle.eon_model.specs.Grid.{Units}
+use Rattle.eon_model.specs.Grid.{Units, span_of}
 use Rattle.eon_model.specs.Names.{Name, is_name}
 use Rattle.eon_model.specs.Network.{Network, Fibre, fibre_at, name_at, names_of_fibres}
 use Rattle.eon_model.specs.Numerals.{is_within}
 use Rattle.eon_model.specs.NetworkText.{is_setup, is_fibre_among}
 use Rattle.eon_model.specs.declared.Class.{Class}
-use Rattle.eon_model.specs.declared.Class.TheVariants.{Bare, Shared}
+use Rattle.eon_model.specs.declared.Class.TheVariants.{Bare, Shared, Dual}
 use Rattle.eon_model.specs.Services.{Path, Leg, Service, State, legs_of}
 use Rattle.eon_model.specs.Legal.{Setup}
 use Rattle.eon_model.specs.Listings.{centre_mhz, class_word, path_json, or_null, leg_json, service_json, totals_json, report_text, totals}
@@ -163,9 +163,14 @@ shared_word : escape (codes "shared") ≡ codes "shared"
 unfolding serde_json_on_literals
 shared_word = refl
 
+dual_word : escape (codes "dual") ≡ codes "dual"
+unfolding serde_json_on_literals
+dual_word = refl
+
 class_same : (class : Class) → escape (class_word class) ≡ class_word class
 class_same Bare = bare_word
 class_same Shared = shared_word
+class_same Dual = dual_word
 
 -- members with their texts, built one by one
 record MembersTold (ms : Members) (ts : List (List ℕ)) : Type 0 where
@@ -273,7 +278,7 @@ pub report-plain : (setup : Setup) (state : State) → is_setup setup ≡ true �
     list_all (λ s. is_name s.name) state ≡ true → IsPlain (report_data setup state) (report_text setup state)
 report-plain setup state ok named =
     let names = names-plain setup ok in
-    told-object (and_then (codes "band") (band-plain setup.band) key-band
+    told-object (and_then (codes "band") (band-plain (span_of setup.band)) key-band
     (and_then (codes "services") (services-plain setup.network names state named) key-services
     (and_then (codes "stats") (totals-plain (totals setup state)) key-stats no_more)))
 

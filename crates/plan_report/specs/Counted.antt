@@ -1,21 +1,36 @@
--- How many holdings hold each unit of a band on a fibre.
+-- How many holdings take each unit of a band on a fibre.
 use Rattle.std.specs.Prelude.{◌≡◌, ℕ, ◌+◌, ◌<◌, ◌≤◌, ℤ, pos, ◌+ℤ◌, Bool, List, [], ◌∷◌, length, count_by, slice_index, if◌then◌else◌}
 use Rattle.std.specs.List.{flat_map}
-use Rattle.eon_model.specs.Services.{Leg, Service, State, Holding, legs_of, working_holding, backup_holdings}
+use Rattle.eon_model.specs.declared.Class.{Class}
+use Rattle.eon_model.specs.Grid.{Units}
+use Rattle.eon_model.specs.Legal.{is_shared, is_dual}
+use Rattle.eon_model.specs.Route.{Route}
+use Rattle.eon_model.specs.Services.{Leg, Service, State, Holding, OwnedLeg, owned_legs, working_holding, backup_holdings}
 use Rattle.eon_model.specs.Listings.{holds}
 use Rattle.plan_report.specs.declared.rows.Kind.{Kind}
-use Rattle.plan_report.specs.declared.rows.Kind.TheVariants.{Work, Backup}
+use Rattle.plan_report.specs.declared.rows.Kind.TheVariants.{Lit, Held}
 
--- what a leg holds in this way
-abbrev pub held_by : Kind → Leg → List Holding
-held_by Work l = working_holding l ∷ []
-held_by Backup l = backup_holdings l
+-- these units on each fibre of the route
+abbrev pub over : Route → Units → Holding
+over route units = record { route = route; units = units }
 
--- what a service holds in this way
+-- the backup, where it counts
+abbrev pub backups_if : Bool → Leg → List Holding
+backups_if counts l = if counts then backup_holdings l else []
+
+-- what a leg of a service of this class takes in this way
+abbrev pub taken : Kind → Class → Leg → List Holding
+taken Lit class l = working_holding l ∷ backups_if (is_dual class) l
+taken Held class l = backups_if (is_shared class) l
+
+abbrev pub taken_by : Kind → OwnedLeg → List Holding
+taken_by kind l = taken kind l.class l.leg
+
+-- what a service takes in this way
 abbrev pub service_holdings : Kind → Service → List Holding
-service_holdings kind s = flat_map (held_by kind) (legs_of s)
+service_holdings kind s = flat_map (taken_by kind) (owned_legs s)
 
--- what these services hold in this way
+-- what these services take in this way
 abbrev pub state_holdings : Kind → State → List Holding
 state_holdings kind state = flat_map (service_holdings kind) state
 
@@ -23,7 +38,7 @@ state_holdings kind state = flat_map (service_holdings kind) state
 abbrev pub one_if : Bool → ℕ
 one_if b = if b then 1 else 0
 
--- how many of these hold the unit on the fibre
+-- how many of these take the unit on the fibre
 abbrev pub holders : ℕ → List Holding → ℤ → ℕ
 holders fibre hs u = count_by (holds fibre u) hs
 

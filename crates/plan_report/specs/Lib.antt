@@ -1,5 +1,5 @@
 pub mod Counted
+pub mod Featured
 pub mod Mapped
 pub mod InRange
 pub mod Reported
-pub mod Words

@@ -3,7 +3,7 @@ use Rattle.std.specs.Prelude.{ℕ, ℤ, [], ◌∷◌, map, codes, Option, Some,
 use Rattle.serde_json.specs.Data.{Data, null, number, unsigned, string, array, object, member, no_members}
 use Rattle.serde_json.specs.Find.{of_integer}
 use Rattle.serde_json.specs.View.{items_of}
-use Rattle.eon_model.specs.Grid.{Units}
+use Rattle.eon_model.specs.Grid.{Units, span_of}
 use Rattle.eon_model.specs.Network.{Network, fibre_at, name_at}
 use Rattle.eon_model.specs.Services.{Path, Leg, Service, State, legs_of}
 use Rattle.eon_model.specs.Legal.{Setup}
@@ -61,6 +61,6 @@ band_data band = array (items_of (integer_data band.lo ∷ integer_data band.hi 
 -- the whole report
 abbrev pub report_data : Setup → State → Data
 report_data setup state = object (
-    member (codes "band") (band_data setup.band) (
+    member (codes "band") (band_data (span_of setup.band)) (
     member (codes "services") (array (items_of (map (service_data setup.network) state))) (
     member (codes "stats") (totals_data (totals setup state)) no_members)))

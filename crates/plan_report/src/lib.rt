@@ -2,18 +2,17 @@
 //! a `Text` as it stands, and `Stats` as one line.
 #![tactic(auto)]
 
-#[cfg(test)]
-mod fixtures;
-pub(crate) mod lines;
+mod lines;
 pub mod map;
 pub mod report;
-pub mod rows;
+mod rows;
 pub mod stats;
 #[cfg(test)]
 mod tests;
 pub mod text;
 pub mod totals;
-pub(crate) mod words;
 
+pub use map::map_text;
+pub use report::report_text;
 pub use stats::Stats;
 pub use text::Text;

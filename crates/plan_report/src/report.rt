@@ -3,6 +3,7 @@ ghost use Rattle.std.specs.Prelude.{◌≡◌, ◌<◌, length, map, IsTrue, IfO
 ghost use Rattle.std.specs.List.{list_all};
 ghost use Rattle.serde_json.specs.Data.{string};
 ghost use Rattle.serde_json.specs.View.{view};
+ghost use Rattle.eon_model.specs.Grid.{span_of};
 ghost use Rattle.eon_model.specs.Legal.{Legal};
 ghost use Rattle.eon_model.specs.Listings as listings;
 ghost use Rattle.eon_model.specs.Names.{is_name};
@@ -120,6 +121,7 @@ fn class_word(class: Class) -> &'static str
     match class {
         Class::Bare => "bare",
         Class::Shared => "shared",
+        Class::Dual => "dual",
     }
 }
 
@@ -174,7 +176,7 @@ fn totals_value(alloc: Global, stats: &Stats) -> Result<Value, AllocError>
 }
 
 fn band_value(alloc: Global, band: &Band) -> Result<Value, AllocError>
-    ensures { IfOk result (λ v. view v ≡ band_data band.now) }
+    ensures { IfOk result (λ v. view v ≡ band_data (span_of band.now)) }
 {
     json!(in alloc; [band.lo(), band.hi()])
 }
@@ -191,7 +193,7 @@ fn report_value(alloc: Global, setup: &NetSetup, services: &Services) -> Result<
     json!(in alloc; {"band": band, "services": listed, "stats": totals})
 }
 
-/// The report of a legal state: its band, each service in order of admission with its legs and their paths,
+/// The report of a legal state: the lowest and the highest unit of the band, each service in order of admission with its legs and their paths,
 /// and the totals, as one JSON value in compact text, the keys in byte order, without byte 10. Want of
 /// memory is the only failure.
 pub fn report_text(alloc: Global, setup: &NetSetup, services: &Services) -> Result<Text, AllocError>

@@ -6,14 +6,17 @@ ghost use Rattle.eon_model.specs.Lists.{integers_from};
 ghost use Rattle.eon_model.specs.Listings as listings;
 ghost use Rattle.eon_model.specs.Listings.{holds};
 ghost use Rattle.eon_model.specs.FirstFit.{centres_in};
-ghost use Rattle.eon_model.specs.Grid.{unit_count, has_unit};
-ghost use Rattle.plan_report.specs.Counted.{held_by, service_holdings, state_holdings, holders, one_if, Grows, AtMost};
+ghost use Rattle.eon_model.specs.Grid.{unit_count, has_unit, span_of};
+ghost use Rattle.eon_model.specs.Services.{working_holding};
+ghost use Rattle.plan_report.specs.Counted.{over, backups_if, taken, service_holdings, state_holdings, holders, one_if, Grows, AtMost};
 
+use eon_model::Class;
 use flex_grid::band::Band;
 use leg_state::holding::{Span, channel_span, has_fibre, path_span};
 use leg_state::leg::Leg;
 use leg_state::service::Service;
 use leg_state::services::Services;
+use net_graph::Route;
 use net_setup::NetSetup;
 
 /// The most units of a band.
@@ -21,11 +24,11 @@ pub(crate) const MOST_UNITS: usize = 1024;
 
 /// Which holdings are counted.
 #[derive(Clone, Copy, Debug)]
-pub enum Kind {
-    /// Those of working paths.
-    Work,
-    /// Those of backup paths.
-    Backup,
+pub(crate) enum Kind {
+    /// Those that are lit: working paths, and the backups of dual services.
+    Lit,
+    /// Those that are held dark: the backups of shared services.
+    Held,
 }
 
 // The place of a unit among so many from the lowest on: the first one for a lower unit, and their number
@@ -63,41 +66,67 @@ fn count_span(counts: &mut [u32], lowest: i16, units: &Span)
     count_places(counts, from, to);
 }
 
-// One more for each unit that the leg holds on the fibre in this way.
-fn count_leg(counts: &mut [u32], lowest: i16, fibre: u8, kind: Kind, leg: &Leg)
+// One more for each of these units that is there, where the route has the fibre.
+fn count_route(counts: &mut [u32], lowest: i16, fibre: u8, route: &Route, units: &Span)
     requires room { AtMost 1000000 counts.old }
     requires few { length counts.old ≤ 1024 }
-    ensures { Grows lowest (holders fibre (held_by kind leg.now)) counts.old counts.new }
+    ensures { Grows lowest (holders fibre (over route.now units.now ∷ [])) counts.old counts.new }
 {
-    match kind {
-        Kind::Work => {
-            if has_fibre(&leg.work.route, fibre) {
-                count_span(counts, lowest, &channel_span(leg));
-            }
-        }
-        Kind::Backup => {
-            if let Some(back) = &leg.back {
-                if has_fibre(&back.route, fibre) {
-                    count_span(counts, lowest, &path_span(back));
-                }
-            }
+    if has_fibre(route, fibre) {
+        count_span(counts, lowest, units);
+    }
+}
+
+// One more for each unit of the leg's channel on the fibre.
+fn count_channel(counts: &mut [u32], lowest: i16, fibre: u8, leg: &Leg)
+    requires room { AtMost 1000000 counts.old }
+    requires few { length counts.old ≤ 1024 }
+    ensures { Grows lowest (holders fibre (working_holding leg.now ∷ [])) counts.old counts.new }
+{
+    count_route(counts, lowest, fibre, &leg.work.route, &channel_span(leg));
+}
+
+// One more for each unit of the leg's backup on the fibre, where backups count.
+fn count_backup(counts: &mut [u32], lowest: i16, fibre: u8, is_counted: bool, leg: &Leg)
+    requires room { AtMost 1000000 counts.old }
+    requires few { length counts.old ≤ 1024 }
+    ensures { Grows lowest (holders fibre (backups_if is_counted leg.now)) counts.old counts.new }
+{
+    if is_counted {
+        if let Some(back) = &leg.back {
+            count_route(counts, lowest, fibre, &back.route, &path_span(back));
         }
     }
 }
 
-// One more for each unit that a leg of the service holds on the fibre in this way.
-fn count_service(counts: &mut [u32], lowest: i16, fibre: u8, kind: Kind, service: &Service)
+// One more for each unit that the leg takes on the fibre in this way.
+fn count_leg(counts: &mut [u32], lowest: i16, fibre: u8, kind: Kind, class: Class, leg: &Leg)
     requires room { AtMost 999999 counts.old }
+    requires few { length counts.old ≤ 1024 }
+    ensures { Grows lowest (holders fibre (taken kind class leg.now)) counts.old counts.new }
+{
+    match kind {
+        Kind::Lit => {
+            count_channel(counts, lowest, fibre, leg);
+            count_backup(counts, lowest, fibre, class.dual(), leg);
+        }
+        Kind::Held => count_backup(counts, lowest, fibre, class.shared(), leg),
+    }
+}
+
+// One more for each unit that a leg of the service takes on the fibre in this way.
+fn count_service(counts: &mut [u32], lowest: i16, fibre: u8, kind: Kind, service: &Service)
+    requires room { AtMost 999997 counts.old }
     requires few { length counts.old ≤ 1024 }
     ensures { Grows lowest (holders fibre (service_holdings kind service.now)) counts.old counts.new }
 {
-    count_leg(counts, lowest, fibre, kind, &service.leg);
+    count_leg(counts, lowest, fibre, kind, service.class, &service.leg);
     if let Some(next) = &service.next {
-        count_leg(counts, lowest, fibre, kind, next);
+        count_leg(counts, lowest, fibre, kind, service.class, next);
     }
 }
 
-// Counts the units from the lowest on that the services hold on the fibre in this way.
+// Counts the units from the lowest on that the services take on the fibre in this way.
 fn count_services(counts: &mut [u32], lowest: i16, fibre: u8, kind: Kind, services: &Services)
     requires empty { AtMost 0 counts.old }
     requires few { length counts.old ≤ 1024 }
@@ -127,9 +156,9 @@ pub(crate) fn count_row(counts: &mut [u32], lowest: i16, fibre: u8, kind: Kind, 
     count_services(counts, lowest, fibre, kind, services);
 }
 
-// How many units the band has.
+// How many units lie from the lowest to the highest of the band, gaps among them.
 pub(crate) fn band_units(band: &Band) -> usize
-    ensures count { result ≡ unit_count band.now }
+    ensures count { result ≡ unit_count (span_of band.now) }
     ensures few { result ≤ 1024 }
 {
     (i32::from(band.hi()) - i32::from(band.lo()) + 1) as usize
@@ -156,7 +185,7 @@ fn units_on(setup: &NetSetup, fibre: u8, kind: Kind, services: &Services) -> u32
     count_positive(counts)
 }
 
-// How many pairs of a fibre and a unit of the band the services hold in this way.
+// How many pairs of a fibre and a unit of the band the services take in this way.
 pub(crate) fn units_held(setup: &NetSetup, kind: Kind, services: &Services) -> u32
     requires { length services.now.list ≤ 65535 }
     ensures { result ≡ listings.units_held setup.now (state_holdings kind services.now.list) }

@@ -1,8 +1,8 @@
 //! The totals of a state.
 use std::marker::Model;
 
-/// The totals of a state. `lit` counts the pairs of a fibre and a unit of 6.25 GHz in a working holding, and
-/// `held` those in at least one backup.
+/// The totals of a state. `lit` counts the pairs of a fibre and a unit of 6.25 GHz in the light of a working path or a
+/// dual backup, and `held` those in at least one shared backup.
 #[derive(Clone, Copy, Debug, PartialEq, Eq)]
 pub struct Stats {
     /// All live services.
