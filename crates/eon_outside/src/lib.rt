@@ -4,9 +4,9 @@
 #![tactic(auto)]
 
 pub mod buffered;
-mod call_plan;
+pub mod call_plan;
 pub mod files_in_memory;
-mod opened_names;
+pub mod opened_names;
 pub mod output_in_memory;
 pub mod reading;
 pub mod real_files;

@@ -16,14 +16,14 @@ impl Model for OpenedNames {
 
 impl OpenedNames {
     /// No name yet.
-    pub(crate) fn new() -> OpenedNames
+    pub fn new() -> OpenedNames
         ensures { result.names ≡ [] }
     {
         OpenedNames {}
     }
 
     /// Adds a name at the end.
-    pub(crate) fn note(&mut self, _name: &[u8])
+    pub fn note(&mut self, _name: &[u8])
         ensures { self.new.names ≡ self.old.names ++ _name.now ∷ [] }
     {}
 }

@@ -1,0 +1,4 @@
+pub mod HeldLaws
+pub mod RangeLaws
+pub mod DiskTells
+pub mod Untold

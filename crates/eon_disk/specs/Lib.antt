@@ -1,0 +1,4 @@
+pub mod Asked
+pub mod HeldBytes
+pub mod HeldDisk
+pub mod Track
