@@ -1,5 +1,5 @@
 -- Which fibres a search leaves out, as a set and as a test.
-use Rattle.std.proofs.Common.{◌≡◌, refl, sym, ◌∙◌, ap, ℕ, ◌+◌, ◌-◌, ◌<◌, ◌≤◌, ◌⊎◌, inl, inr, nat_eq, Bool, true, false, cond, ◌||◌, ◌&&◌, not, List, [], ◌∷◌, map, filter, take, length, Option, Some, None, arith}
+use Rattle.std.proofs.Common.{◌≡◌, refl, sym, ◌∙◌, ap, ℕ, ◌+◌, ◌-◌, ◌<◌, ◌≤◌, ◌⊎◌, inl, inr, nat_eq, Bool, true, false, cond, ◌||◌, ◌&&◌, not, List, [], ◌∷◌, filter, take, length, Option, Some, None, arith}
 use Rattle.std.specs.Prelude.{nat_le, IfSome}
 use Rattle.std.specs.List.{list_any, range_with_len}
 use Rattle.std.specs.Ordering.{nat_cmp}
@@ -9,8 +9,8 @@ use Rattle.std.proofs.lemmas.Bool.{cases_lt, eq-eqb, ne_eqb}
 use Rattle.std.proofs.lemmas.List.{append-nil}
 use Rattle.eon_model.specs.Candidates.{is_avoided, fails_with}
 use Rattle.eon_model.specs.Sets.{NumberSet, has_member, set_of, meets}
-use Rattle.eon_model.specs.Network.{Network, AreFibres, risks_of_fibre}
-use Rattle.eon_model.specs.Route.{Route, route_of, walks, risk_of}
+use Rattle.eon_model.specs.Network.{Network, risks_of_fibre}
+use Rattle.eon_model.specs.Route.{Route, route_of, walks}
 use Rattle.eon_model.specs.Routes.{route_cmp, is_open, lists_of_fibres, all_routes, first_routes}
 use Rattle.eon_model.specs.Lists.{sort_by}
 use Rattle.eon_model.specs.Legal.{Setup}

@@ -1,5 +1,4 @@
 pub mod PutLaws
 pub mod BanLaws
 pub mod FoundLaws
-pub mod SetupLaws
 pub mod SizedLaws

@@ -1,13 +1,13 @@
 -- Routes put in one after another, as far as they are within reach.
 use Rattle.std.proofs.Common.{◌≡◌, refl, sym, ◌∙◌, ap, ℕ, zero, suc, ◌+◌, ◌<◌, List, [], ◌∷◌, ◌++◌, map, length, take, Option, Some, None, slice_get, append_assoc, add-one, arith}
-use Rattle.std.specs.List.{filter_map, cons_option, flat_map}
+use Rattle.std.specs.List.{filter_map, cons_option}
 use Rattle.std.specs.Option.{option_and_then, option_to_list}
 use Rattle.std.proofs.lemmas.List.{map-append}
 use Rattle.std.proofs.lemmas.Grind.{flat_map-append}
 use Rattle.eon_model.specs.declared.Class.{Class}
 use Rattle.eon_model.specs.declared.Class.TheVariants.{Bare, Shared, Dual}
 use Rattle.eon_model.specs.Legal.{Setup}
-use Rattle.eon_model.specs.Candidates.{SizedRoute, Candidate, alone, with_backup, backed, candidates_over}
+use Rattle.eon_model.specs.Candidates.{SizedRoute, alone, backed, candidates_over}
 
 one_more : {X : Type 0} (o : Option X) → cons_option o [] ≡ option_to_list o
 one_more None = refl

@@ -9,13 +9,11 @@ ghost use Rattle.pair_list.specs.Sized.{is_sized_candidate};
 
 use crate::reach::{routes_within, sized_at};
 use crate::sharers::{avoided, sharers};
-use eon_base::steps::Steps;
 use leg_state::{Class, Pair, Spare};
 use net_graph::RouteList;
 use net_setup::NetSetup;
 use std::alloc::{AllocError, Global};
-use std::marker::{Brand, Model};
-use std::sync::ledger::{Blank, Ledger};
+use std::marker::Model;
 
 /// The candidates of a demand, in the order in which they are tried. There are at most 256.
 #[derive(Drop)]
@@ -70,6 +68,9 @@ struct Demand {
     t: u8,
     rate: u32,
     class: Class,
+
+    ghost some_rate: { 1 ≤ rate },
+    ghost rate_limit: { rate ≤ 60000 },
 }
 
 // Puts the working route with this backup behind the pairs, if there is one.
@@ -97,62 +98,54 @@ fn put_backup(
 fn put_backups(
     alloc: Global,
     setup: &NetSetup,
-    rate: u32,
+    demand: Demand,
     work: &Spare,
     backups: &RouteList,
     pairs: &mut Vec<Pair>,
 ) -> Result<(), AllocError>
-    requires rate { 1 ≤ rate }
-    requires rate_limit { rate ≤ 60000 }
-    ensures { OnOk result (pairs.new.items ≡ pairs.old.items ++ map (with_backup work.now) (filter_map (sized setup.now rate) backups.now)) }
+    ensures { OnOk result (pairs.new.items ≡ pairs.old.items ++ map (with_backup work.now) (filter_map (sized setup.now demand.rate) backups.now)) }
 {
     for i in 0..backups.len() {
-        let back = sized_at(alloc, setup, rate, backups, i)?;
+        let back = sized_at(alloc, setup, demand.rate, backups, i)?;
         put_backup(alloc, work, back, pairs)?;
     }
     Ok(())
 }
 
 // Puts the working route with each backup that shares no group with it behind the pairs.
-fn put_protected<L: Ledger>(
+fn put_protected(
     alloc: Global,
     setup: &NetSetup,
     demand: Demand,
     work: &Spare,
     pairs: &mut Vec<Pair>,
-    steps: &mut Steps<L>,
 ) -> Result<(), AllocError>
     requires source { demand.s < length setup.now.network.nodes }
     requires target { demand.t < length setup.now.network.nodes }
-    requires rate { 1 ≤ demand.rate }
-    requires rate_limit { demand.rate ≤ 60000 }
     ensures { OnOk result (pairs.new.items ≡ pairs.old.items ++ backed setup.now demand.s demand.t demand.rate work.now) }
 {
     let banned = sharers(&setup.net, &work.route.risk());
-    let backups = routes_within(alloc, setup, demand.s, demand.t, &banned, steps)?;
-    put_backups(alloc, setup, demand.rate, work, &backups, pairs)
+    let backups = routes_within(alloc, setup, demand.s, demand.t, &banned)?;
+    put_backups(alloc, setup, demand, work, &backups, pairs)
 }
 
 // Puts the candidates with this working route behind the pairs, if there is one.
-fn put_work<L: Ledger>(
+fn put_work(
     alloc: Global,
     setup: &NetSetup,
     demand: Demand,
     work: Option<Spare>,
     pairs: &mut Vec<Pair>,
-    steps: &mut Steps<L>,
 ) -> Result<(), AllocError>
     requires source { demand.s < length setup.now.network.nodes }
     requires target { demand.t < length setup.now.network.nodes }
-    requires rate { 1 ≤ demand.rate }
-    requires rate_limit { demand.rate ≤ 60000 }
     ensures { OnOk result (pairs.new.items ≡ pairs.old.items ++ candidates_over setup.now demand.s demand.t demand.rate demand.class (option_to_list work)) }
 {
     let Some(work) = work else {
         return Ok(());
     };
     match demand.class {
-        Class::Shared | Class::Dual => put_protected(alloc, setup, demand, &work, pairs, steps),
+        Class::Shared | Class::Dual => put_protected(alloc, setup, demand, &work, pairs),
         Class::Bare => {
             pairs.push(Pair {
                 work: work.route,
@@ -165,53 +158,22 @@ fn put_work<L: Ledger>(
 }
 
 // Puts the candidates with each of these working routes behind the pairs.
-fn put_works<L: Ledger>(
+fn put_works(
     alloc: Global,
     setup: &NetSetup,
     demand: Demand,
     works: &RouteList,
     pairs: &mut Vec<Pair>,
-    steps: &mut Steps<L>,
 ) -> Result<(), AllocError>
     requires source { demand.s < length setup.now.network.nodes }
     requires target { demand.t < length setup.now.network.nodes }
-    requires rate { 1 ≤ demand.rate }
-    requires rate_limit { demand.rate ≤ 60000 }
     ensures { OnOk result (pairs.new.items ≡ pairs.old.items ++ candidates_over setup.now demand.s demand.t demand.rate demand.class (filter_map (sized setup.now demand.rate) works.now)) }
 {
     for i in 0..works.len() {
         let work = sized_at(alloc, setup, demand.rate, works, i)?;
-        put_work(alloc, setup, demand, work, pairs, steps)?;
+        put_work(alloc, setup, demand, work, pairs)?;
     }
     Ok(())
-}
-
-// All candidates, with the count of steps in the ledger of the blank.
-fn pairs_counted<L: Ledger>(
-    blank: Blank,
-    alloc: Global,
-    setup: &NetSetup,
-    demand: Demand,
-    avoid: Option<u8>,
-) -> Result<PairList, AllocError>
-    requires name { blank.name ≡ L.name }
-    requires parts { blank.parts ≡ L.parts }
-    requires some { 0 < L.parts }
-    requires setup { IsTrue (is_setup setup.now) }
-    requires source { demand.s < length setup.now.network.nodes }
-    requires target { demand.t < length setup.now.network.nodes }
-    requires rate { 1 ≤ demand.rate }
-    requires rate_limit { demand.rate ≤ 60000 }
-    requires avoid { IfSome avoid (λ fibre. fibre < length setup.now.network.fibres) }
-    ensures pairs { IfOk result (λ ps. ps ≡ candidates setup.now demand.s demand.t demand.rate demand.class avoid) }
-    ensures sized { IfOk result (λ ps. IsTrue (list_all (is_sized_candidate setup.now demand.s demand.t demand.rate) ps)) }
-{
-    let mut steps = Steps::<L>::over(blank);
-    let banned = avoided(avoid);
-    let works = routes_within(alloc, setup, demand.s, demand.t, &banned, &mut steps)?;
-    let mut pairs = Vec::new(alloc);
-    put_works(alloc, setup, demand, &works, &mut pairs, &mut steps)?;
-    Ok(PairList { pairs })
 }
 
 /// The candidates of a demand of `rate` Gbit/s from `s` to `t`, in order: by the rank of the working route, and then of
@@ -236,5 +198,9 @@ pub fn pairs(
     ensures sized { IfOk result (λ ps. IsTrue (list_all (is_sized_candidate setup.now s t rate) ps)) }
 {
     let demand = Demand { s, t, rate, class };
-    pairs_counted::<Brand>(Blank::new(1), alloc, setup, demand, avoid)
+    let banned = avoided(avoid);
+    let works = routes_within(alloc, setup, s, t, &banned)?;
+    let mut pairs = Vec::new(alloc);
+    put_works(alloc, setup, demand, &works, &mut pairs)?;
+    Ok(PairList { pairs })
 }

@@ -1,12 +1,12 @@
 //! The candidates of a demand: working routes, each with its backup routes where the demand is protected, and the slot
-//! widths that the rate needs on them. The layer above calls `pairs`, and reads or takes a pair by its rank.
+//! widths that the rate needs on them. The layer above calls `pairs`, and reads or takes a pair by its rank;
+//! `routes_within` gives the routes alone.
 #![tactic(auto)]
 
 mod demand;
 mod reach;
 mod sharers;
-#[cfg(test)]
-mod tests;
 
 pub use demand::{PairList, pairs};
 pub use leg_state::{Class, Pair, Spare};
+pub use reach::routes_within;

@@ -13,23 +13,44 @@ use net_setup::NetSetup;
 use reach_table::table::need;
 use route_list::routes;
 use std::alloc::{AllocError, Global};
-use std::sync::ledger::Ledger;
+use std::marker::Brand;
+use std::sync::ledger::{Blank, Ledger};
 
-/// The first routes between the nodes that are within reach and use no banned fibre.
-pub(crate) fn routes_within<L: Ledger>(
+// The first routes within reach, with the count of steps in the ledger of the blank.
+fn routes_counted<L: Ledger>(
+    blank: Blank,
     alloc: Global,
     setup: &NetSetup,
     s: u8,
     t: u8,
     banned: &FibreSet,
-    steps: &mut Steps<L>,
+) -> Result<RouteList, AllocError>
+    requires name { blank.name ≡ L.name }
+    requires parts { blank.parts ≡ L.parts }
+    requires some { 0 < L.parts }
+    requires source { s < length setup.now.network.nodes }
+    requires target { t < length setup.now.network.nodes }
+    ensures { IfOk result (λ rs. rs ≡ first_routes setup.now.network s t (has_member banned.now) setup.now.k (max_reach setup.now.formats)) }
+{
+    let mut steps = Steps::<L>::over(blank);
+    let max_km = setup.table.max_reach();
+    routes(alloc, &setup.net, s, t, banned, setup.k, max_km, &mut steps)
+}
+
+/// The first routes from node `s` to node `t` that are within the greatest reach of the table and use no banned fibre:
+/// as many as the network lists, the shorter first, and of one length the one whose list of names comes first.
+pub fn routes_within(
+    alloc: Global,
+    setup: &NetSetup,
+    s: u8,
+    t: u8,
+    banned: &FibreSet,
 ) -> Result<RouteList, AllocError>
     requires source { s < length setup.now.network.nodes }
     requires target { t < length setup.now.network.nodes }
-    ensures routes { IfOk result (λ rs. rs ≡ first_routes setup.now.network s t (has_member banned.now) setup.now.k (max_reach setup.now.formats)) }
+    ensures { IfOk result (λ rs. rs ≡ first_routes setup.now.network s t (has_member banned.now) setup.now.k (max_reach setup.now.formats)) }
 {
-    let max_km = setup.table.max_reach();
-    routes(alloc, &setup.net, s, t, banned, setup.k, max_km, steps)
+    routes_counted::<Brand>(Blank::new(1), alloc, setup, s, t, banned)
 }
 
 /// The route at this place with the slot width that the rate needs; None where no format reaches so far.

@@ -5,4 +5,4 @@ use Rattle.pair_list.proofs.demand.put_backups.Given as goal
 
 abbrev pub invariant-loop-i : goal.invariant-loop-i
 invariant-loop-i l =
-    l.pairs.items ≡ l.initial.pairs.items ++ map (with_backup l.work) (filter_map (sized l.setup l.rate) (take l.i l.backups))
+    l.pairs.items ≡ l.initial.pairs.items ++ map (with_backup l.work) (filter_map (sized l.setup l.demand.rate) (take l.i l.backups))

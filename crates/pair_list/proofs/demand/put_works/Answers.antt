@@ -4,7 +4,7 @@ use Rattle.pair_list.proofs.PutLaws.{put-step, over-joins}
 use Rattle.pair_list.proofs.demand.put_works.Goals as goal
 
 pub loop-i-preserved : goal.loop-i-preserved
-loop-i-preserved g c =
+loop-i-preserved c =
     let setup = c.args.setup.now in
     let d = c.args.demand in
     put-step (candidates_over setup d.s d.t d.rate d.class) (over-joins setup d.s d.t d.rate d.class)

@@ -4,7 +4,7 @@ use Rattle.eon_model.specs.Candidates.{sized, candidates_over}
 use Rattle.pair_list.proofs.demand.put_works.Given as goal
 
 abbrev pub invariant-loop-i : goal.invariant-loop-i
-invariant-loop-i g l =
+invariant-loop-i l =
     l.pairs.items
     ≡ l.initial.pairs.items ++ candidates_over l.setup l.demand.s l.demand.t l.demand.rate l.demand.class
     (filter_map (sized l.setup l.demand.rate) (take l.i l.works))

@@ -1,4 +1,4 @@
-use Rattle.std.proofs.Common.{◌≡◌, sym, ◌∙◌, ap}
+use Rattle.std.proofs.Common.{sym, ◌∙◌, ap}
 use Rattle.std.specs.FinSet.{insert}
 use Rattle.eon_model.specs.Candidates.{is_avoided}
 use Rattle.eon_model.specs.Sets.{has_member}

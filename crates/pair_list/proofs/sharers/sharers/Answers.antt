@@ -1,4 +1,4 @@
-use Rattle.std.proofs.Common.{◌≡◌, ◌+◌, sym, subst}
+use Rattle.std.proofs.Common.{◌+◌, sym, subst}
 use Rattle.eon_model.specs.Network.{risks_of_fibre}
 use Rattle.eon_model.specs.Sets.{NumberSet, set_of, meets}
 use Rattle.pair_list.proofs.BanLaws.{HasBelow, has-none, has-more}
