@@ -1,23 +1,16 @@
 -- The order of walks: a walk comes before what goes on from it, and routes have the order of their walks.
-use Rattle.std.proofs.Common.{◌≡◌, refl, sym, ◌∙◌, ap, ℕ, zero, suc, ◌+◌, ◌<◌, true, ◌&&◌, not, List, [], ◌∷◌, ◌++◌, length, nat_eq, arith}
-use Rattle.std.specs.Prelude.{nat_lt}
-use Rattle.std.specs.List.{list_all}
+use Rattle.std.proofs.Common.{◌≡◌, refl, sym, ◌∙◌, ap, ℕ, zero, suc, ◌+◌, true, List, [], ◌∷◌, ◌++◌, arith}
 use Rattle.std.specs.declared.cmp.Ordering.{Ordering}
 use Rattle.std.specs.declared.cmp.Ordering.TheVariants.{Less, Equal}
 use Rattle.std.specs.Ordering.{nat_cmp, ordering_then}
 use Rattle.std.specs.Cmp.{IsTotalOrder, on_total, then_total, nat_cmp_total, nat_cmp_is, tied_itself}
 use Rattle.std.specs.Cmp.Lexicographic.{slice_cmp, nat_list_cmp_total}
-use Rattle.std.proofs.lemmas.Bool.{and_parts, ltb-true}
 use Rattle.std.proofs.lemmas.List.Sums.{sum_by-append}
-use Rattle.eon_model.specs.Names.{is_name, ascend}
-use Rattle.eon_model.specs.Network.{Network, Fibre, AreFibres, fibre_names, fibre_at}
-use Rattle.eon_model.specs.NetworkText.{is_fibre_among}
-use Rattle.eon_model.specs.Numerals.{is_within}
+use Rattle.eon_model.specs.Names.{ascend}
+use Rattle.eon_model.specs.Network.{Network, AreFibres, fibre_names, fibre_at}
 use Rattle.eon_model.specs.Route.{km_of, route_of}
 use Rattle.eon_model.specs.Routes.{route_cmp}
 use Rattle.eon_model.proofs.NumberLaws.{route_cmp-numbers}
-use Rattle.eon_model.proofs.OrderLaws.{AllOf}
-use Rattle.eon_model.proofs.RouteLaws.{EndsAreNodes}
 use Rattle.net_graph.specs.Graph.{is_graph}
 use Rattle.net_graph.proofs.GraphParts.{parts_of}
 use Rattle.route_list.specs.declared.walk.Walk.{Walk}
