@@ -1,13 +1,12 @@
 -- A leg on a candidate fits its service exactly where its slots lie in the band.
-use Rattle.std.proofs.Common.{◌≡◌, refl, ◌∙◌, ◌≤◌, ℤ, pos, negsuc, ◌+ℤ◌, ◌-ℤ◌, ◌≤ℤ◌, arith, Bool, true, false, ◌&&◌, ◌||◌, not, [], ◌∷◌, length, Option, Some, None}
-use Rattle.std.specs.Prelude.{nat_le, int_le, is_some}
+use Rattle.std.proofs.Common.{◌≡◌, refl, ◌∙◌, ℤ, Bool, true, false, ◌&&◌, ◌||◌, not, ◌∷◌, Option, Some, None}
+use Rattle.std.specs.Prelude.{nat_le, is_some}
 use Rattle.std.specs.Option.{option_and_then, option_map, option_to_list}
 use Rattle.std.specs.List.{list_all}
-use Rattle.std.proofs.lemmas.Int.{ints}
-use Rattle.std.proofs.lemmas.Bool.{and_parts, and_from, leb-true, le-leb, not_from_false}
+use Rattle.std.proofs.lemmas.Bool.{and_parts, and_from, leb-true, not_from_false}
 use Rattle.eon_model.specs.declared.Class.{Class}
 use Rattle.eon_model.specs.declared.Class.TheVariants.{Bare, Shared, Dual}
-use Rattle.eon_model.specs.Grid.{Units, Band, Slot, units_of, lies_in, lies_in_band, span_of, is_units, parts_ascend, is_band, is_slot}
+use Rattle.eon_model.specs.Grid.{Band, Slot, units_of, lies_in_band, is_units, is_band, is_slot}
 use Rattle.eon_model.specs.Route.{is_route, share_group}
 use Rattle.eon_model.specs.Services.{Path, Service}
 use Rattle.eon_model.specs.Legal.{Setup, need_of, is_exactly, is_protected, path_fits, fits}

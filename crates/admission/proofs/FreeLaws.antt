@@ -4,12 +4,12 @@ use Rattle.std.specs.Prelude.{nat_abs, int_le}
 use Rattle.std.specs.Int.{int_max, int_min}
 use Rattle.std.proofs.lemmas.Int.{ints, clamps}
 use Rattle.std.proofs.lemmas.Bool.{and_parts, and_from, or_parts, or_from, leb-true, ltb-true, le-leb, lt-ltb, not-true, not_from_false, both_ways, false_from_ne_true}
-use Rattle.eon_model.specs.Grid.{Units, Band, has_unit, overlaps, lies_in, lies_in_band, span_of, unit_count, is_band}
+use Rattle.eon_model.specs.Grid.{Units, Band, has_unit, overlaps, lies_in, span_of, unit_count, is_band}
 use Rattle.eon_model.proofs.GridLaws.{int_le-le, le-int_le, lies_in-facts, overlaps-facts, common-overlaps}
 use Rattle.eon_model.proofs.SetLists.{same_test}
 use Rattle.admission.proofs.SpanLaws.{span-facts}
 use Rattle.admission.specs.declared.row.Row.{Row}
-use Rattle.admission.specs.Free.{is_taken, are_free, are_within, IsFreeWhere, Takes}
+use Rattle.admission.specs.Free.{is_taken, are_free, are_within, Takes}
 use Rattle.admission.proofs.UnitLemmas.{all-at, all-from}
 
 -- ---- units of a row

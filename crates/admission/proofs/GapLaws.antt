@@ -1,10 +1,9 @@
 -- A row where all gaps of its band are taken is free where units lie in one part.
-use Rattle.std.proofs.Common.{◌≡◌, refl, sym, ◌∙◌, ap, subst, ℕ, ◌+◌, ◌-◌, ◌<◌, ◌≤◌, ℤ, pos, ◌+ℤ◌, ◌-ℤ◌, ◌≤ℤ◌, arith, Bool, true, false, ◌&&◌, not, List, [], ◌∷◌, length, drop, replicate, slice_index_or}
-use Rattle.std.specs.List.{list_all}
+use Rattle.std.proofs.Common.{◌≡◌, refl, sym, ◌∙◌, ap, subst, ℕ, ◌+◌, ◌-◌, ◌<◌, ◌≤◌, ℤ, pos, ◌+ℤ◌, ◌-ℤ◌, ◌≤ℤ◌, arith, Bool, true, false, not, length, replicate, slice_index_or}
 use Rattle.std.proofs.lemmas.Int.{ints}
 use Rattle.eon_model.specs.Grid.{Units, Band, overlaps, lies_in_band, is_band}
 use Rattle.admission.specs.declared.row.Row.{Row}
-use Rattle.admission.specs.Free.{are_free, IsFreeWhere, Takes, gaps_of}
+use Rattle.admission.specs.Free.{IsFreeWhere, Takes, gaps_of}
 use Rattle.admission.proofs.PassLaws.{TakenTo, taken-none, taken-more, taken-all}
 use Rattle.admission.proofs.FreeLaws.{free_all}
 use Rattle.admission.proofs.SpanLaws.{gaps-tell, gap_above, gap-at, gaps-end, gap-wide}

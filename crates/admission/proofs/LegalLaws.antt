@@ -1,5 +1,5 @@
 -- A legal state with a new service, or with a second leg, is legal exactly where that leg may stand.
-use Rattle.std.proofs.Common.{◌≡◌, refl, sym, ◌∙◌, ap, subst, ℕ, ◌<◌, Bool, true, false, ◌&&◌, ◌||◌, not, nat_lt, List, [], ◌∷◌, ◌++◌, length, Option, Some, None}
+use Rattle.std.proofs.Common.{◌≡◌, refl, sym, ◌∙◌, ap, subst, ℕ, ◌<◌, Bool, true, false, ◌&&◌, ◌||◌, not, List, [], ◌∷◌, ◌++◌, length, Option, Some, None}
 use Rattle.std.specs.Prelude.{nat_le}
 use Rattle.std.specs.List.{list_all}
 use Rattle.std.specs.Cmp.{nat_eq_equiv}
@@ -11,7 +11,7 @@ use Rattle.eon_model.specs.Names.{Name, same_name}
 use Rattle.eon_model.specs.Lists.{has_number, share_number}
 use Rattle.eon_model.specs.Network.{Fibre}
 use Rattle.eon_model.specs.Route.{walks, is_route}
-use Rattle.eon_model.specs.Services.{Path, Leg, Service, State, OwnedLeg, owned, legs_of, owned_legs, all_legs, is_moving, service_of, collides, working_holding, backup_holdings}
+use Rattle.eon_model.specs.Services.{Leg, Service, State, owned, legs_of, owned_legs, all_legs, is_moving, service_of, collides, working_holding}
 use Rattle.eon_model.specs.Legal.{Setup, need_of, is_exactly, fits, work_is_clear, is_clear, is_legal, Legal}
 use Rattle.eon_model.specs.Candidates.{Candidate}
 use Rattle.eon_model.specs.FirstFit.{Placement, leg_placed, placements_from, first_placement}
@@ -19,7 +19,7 @@ use Rattle.eon_model.specs.Changes.{change_service, without_service, with_next}
 use Rattle.eon_model.specs.Occupied as rows
 use Rattle.eon_model.proofs.OrderLaws.{AllOf}
 use Rattle.eon_model.proofs.ListLaws.{AllOf-more, AllOf-append}
-use Rattle.eon_model.proofs.UnitLaws.{all_agree, all_flat}
+use Rattle.eon_model.proofs.UnitLaws.{all_flat}
 use Rattle.eon_model.proofs.PairLaws.{all_across}
 use Rattle.eon_model.proofs.NameLaws.{names_equal}
 use Rattle.eon_model.proofs.NumberLaws.{same-name}
@@ -29,11 +29,11 @@ use Rattle.eon_model.proofs.BackupLaws.{fits-parts}
 use Rattle.eon_model.proofs.ClashLaws.{Others, NamedIn, service-named, no_service-others}
 use Rattle.eon_model.proofs.ChangeLaws.{named_fits}
 use Rattle.eon_model.proofs.FreeLaws.{IsKept, clear-stands}
-use Rattle.eon_model.proofs.GoodLaws.{fits-kept, legal-kept, legal-good, is_good, without_others}
+use Rattle.eon_model.proofs.GoodLaws.{fits-kept, legal-kept, legal-good, without_others}
 use Rattle.eon_model.proofs.RowRules.{entered-stands, made-stands}
 use Rattle.eon_model.proofs.OwnFirst.{find-agree}
 use Rattle.eon_model.proofs.SuitLaws.{Suits, HasBack, IsPlacementOf, placements-all}
-use Rattle.admission.specs.FirstClear.{stands_in, is_beside, are_clear, is_clear_with, may_stand, first_clear}
+use Rattle.admission.specs.FirstClear.{is_beside, are_clear, is_clear_with, may_stand, first_clear}
 use Rattle.admission.proofs.FitLaws.{fits-stands}
 
 -- ---- legal, by what the new leg owes

@@ -1,9 +1,9 @@
 -- The span of a band, from its lowest to its highest unit, and the gaps between its parts.
-use Rattle.std.proofs.Common.{◌≡◌, refl, sym, ◌∙◌, ap, subst, ℕ, zero, suc, ◌+◌, ◌<◌, ◌≤◌, ℤ, pos, negsuc, ◌+ℤ◌, ◌-ℤ◌, ◌≤ℤ◌, ◌<ℤ◌, arith, Bool, true, false, ◌&&◌, ◌||◌, not, List, [], ◌∷◌, length, drop, ◌-◌, ◌⊎◌, inl, inr, slice_index_or, w32, to_z, of_z, FitsSigned}
+use Rattle.std.proofs.Common.{◌≡◌, refl, sym, ◌∙◌, ap, subst, ℕ, zero, suc, ◌<◌, ◌≤◌, ℤ, pos, negsuc, ◌+ℤ◌, ◌-ℤ◌, ◌≤ℤ◌, ◌<ℤ◌, arith, Bool, true, false, ◌&&◌, ◌||◌, not, List, [], ◌∷◌, length, drop, ◌-◌, ◌⊎◌, inl, inr, slice_index_or, w32, to_z, of_z, FitsSigned}
 use Rattle.std.specs.Prelude.{int_le, nat_le, nat_abs}
 use Rattle.std.specs.List.{list_all}
 use Rattle.std.proofs.lemmas.Int.{ints}
-use Rattle.std.proofs.lemmas.Bool.{and_parts, and_from, le-leb, both_ways, false_from_ne_true, not_from_false, not-true, cases_Bool}
+use Rattle.std.proofs.lemmas.Bool.{and_parts, and_from, le-leb, both_ways, false_from_ne_true, not_from_false, cases_Bool}
 use Rattle.eon_model.specs.Grid.{Units, Band, Slot, units_of, overlaps, lies_in, lies_in_band, span_of, span_from, is_units, parts_ascend, is_band, is_slot}
 use Rattle.eon_model.proofs.GridLaws.{int_le-le, le-int_le, lies_in-facts, facts-lies_in, overlaps-facts, facts-overlaps}
 use Rattle.eon_model.proofs.BandLaws.{BandParts, band-parts, in_span}

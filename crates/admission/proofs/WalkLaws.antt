@@ -11,7 +11,7 @@ use Rattle.flex_grid.proofs.GridFacts.{units-facts, slot-units}
 use Rattle.eon_model.proofs.BandLaws.{band-parts, in_span}
 use Rattle.admission.specs.FirstClear.{stands_in}
 use Rattle.admission.specs.declared.row.Row.{Row}
-use Rattle.admission.specs.Free.{is_taken, are_free, are_within, fits_free, IsFreeWhere, EndsRun, IsFirstRun}
+use Rattle.admission.specs.Free.{is_taken, are_free, fits_free, IsFreeWhere, EndsRun, IsFirstRun}
 use Rattle.admission.proofs.SpanLaws.{span-facts, slot_in_span}
 use Rattle.admission.proofs.FreeLaws.{free-at, free-from}
 use Rattle.admission.proofs.PairLemmas.{find-same}

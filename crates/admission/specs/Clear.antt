@@ -6,7 +6,7 @@ use Rattle.eon_model.specs.declared.Class.{Class}
 use Rattle.eon_model.specs.Grid.{Band}
 use Rattle.eon_model.specs.Route.{Route}
 use Rattle.eon_model.specs.Services.{Path, Leg, Service, State, Holding, collides, holding_of, working_holding, backup_holdings, legs_of}
-use Rattle.eon_model.specs.Candidates.{SizedRoute, Candidate}
+use Rattle.eon_model.specs.Candidates.{SizedRoute}
 use Rattle.eon_model.specs.FirstFit.{path_at, centres_in}
 use Rattle.admission.specs.FirstClear.{stands_in, is_beside, may_share}
 

@@ -1,6 +1,5 @@
 use Rattle.std.proofs.Common.{◌∙◌, ap}
 use Rattle.std.specs.Option.{option_copied}
-use Rattle.eon_model.specs.Candidates.{SizedRoute}
 use Rattle.eon_model.specs.Grid.{Units}
 use Rattle.admission.specs.Clear.{back_is_free, spare_found}
 use Rattle.admission.proofs.WalkLaws.{least-where}

@@ -1,4 +1,4 @@
-use Rattle.std.proofs.Common.{◌≡◌, refl, false, ℕ, ◌-◌, ◌≤◌, ◌<◌, pos, ◌+ℤ◌, ◌-ℤ◌, ◌≤ℤ◌, w32, to_z, of_z, arith, length, replicate}
+use Rattle.std.proofs.Common.{◌≡◌, refl, false, ◌≤◌, ◌<◌, pos, ◌+ℤ◌, ◌-ℤ◌, w32, to_z, of_z, arith, length, replicate}
 use Rattle.std.proofs.lemmas.Int.{ints}
 use Rattle.flex_grid.specs.Padded.{blank}
 use Rattle.admission.proofs.GapLaws.{no-gaps, gap-ends, gap-taken, gaps-free}

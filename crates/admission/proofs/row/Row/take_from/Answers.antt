@@ -2,7 +2,6 @@ use Rattle.std.proofs.Common.{◌≡◌, w32, to_z, of_z, arith}
 use Rattle.std.specs.Int.{int_max, int_min}
 use Rattle.std.proofs.lemmas.Int.{ints, clamps}
 use Rattle.eon_model.specs.Grid.{Units, span_of}
-use Rattle.eon_model.proofs.GridLaws.{int_le-le}
 use Rattle.admission.proofs.FreeLaws.{takes_cut, takes_beside}
 use Rattle.admission.proofs.row.Row.take_from.Goals as goal
 
