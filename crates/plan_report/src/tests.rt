@@ -88,7 +88,7 @@ fn an_empty_list_is_told(rt: HostRuntime) -> Result<(), Fail> {
     assert_eq!(rt; stats(&setup, &services), totals);
     assert_eq!(rt;
         map_text(rt.alloc(), &setup, &services, 0)?.bytes(),
-        b"map ab 0\n"
+        b"map ab 0\n".as_slice()
     );
     assert_eq!(rt;
         report_text(rt.alloc(), &setup, &services)?.bytes(),

@@ -1,3 +1,2 @@
-pub mod SentLaws
 pub mod WordLaws
 pub mod ListingLaws

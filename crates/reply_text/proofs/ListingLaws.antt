@@ -15,8 +15,8 @@ use Rattle.eon_model.specs.Route.{Route}
 use Rattle.eon_model.specs.ReplyText.{format_name, route_lines}
 use Rattle.eon_model.specs.Spelling.{line, fibre_list}
 use Rattle.plan_report.proofs.CountLemmas.{flat_map-take}
-use Rattle.reply_text.specs.Sent.{Sent, Takes}
-use Rattle.reply_text.proofs.SentLaws.{takes-both, takes-same}
+use Rattle.line_writer.specs.Sent.{Sent, Takes}
+use Rattle.line_writer.proofs.TakesLaws.{takes-both, takes-same}
 
 -- the text of one more
 pub next_text : {X : Type 0} (f : X → List ℕ) (xs : List X) (i : ℕ) (x : X) (a b c : Sent) → slice_get xs i ≡ Some x →

@@ -1,4 +1,3 @@
 pub mod Replied
-pub mod Sent
 pub mod Tellable
 pub mod Words

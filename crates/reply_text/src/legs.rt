@@ -4,17 +4,16 @@ ghost use Rattle.eon_model.specs.Network.{AreFibres, fibre_at, name_at, names_of
 ghost use Rattle.eon_model.specs.ReplyText.{path_words, backup_words, leg_words, target_words, new_leg_words};
 ghost use Rattle.eon_model.specs.Spelling.{fibre_list};
 ghost use Rattle.plan_report.specs.InRange.{PathInRange, LegInRange};
-ghost use Rattle.plan_report.specs.Words.{behind};
-ghost use Rattle.reply_text.specs.Sent.{Takes};
+ghost use Rattle.line_writer.specs.Words.{behind};
+ghost use Rattle.line_writer.specs.Sent.{Takes};
 ghost use Rattle.reply_text.specs.Words.{behind_commas};
 
-use crate::pieces::Words;
-use crate::words::{push_centre, push_number, push_word};
 use leg_state::{Leg, Path};
+use line_writer::{TextSink, put_centre, put_number, put_word};
 use net_graph::Net;
 
 // The name of this fibre.
-fn put_fibre<W: Words>(net: &Net, fibre: u8, out: &mut W)
+fn put_fibre<W: TextSink>(net: &Net, fibre: u8, out: &mut W)
     requires { fibre < length net.now.fibres }
     ensures { Takes (W.sent out.old) (W.sent out.new) (fibre_at net.now.fibres fibre).name }
 {
@@ -23,7 +22,7 @@ fn put_fibre<W: Words>(net: &Net, fibre: u8, out: &mut W)
 
 // A comma and the name of this fibre.
 #[tactic(auto, using(crate::proofs::WordLaws::commas))]
-fn put_next_fibre<W: Words>(net: &Net, fibre: u8, out: &mut W)
+fn put_next_fibre<W: TextSink>(net: &Net, fibre: u8, out: &mut W)
     requires { fibre < length net.now.fibres }
     ensures { Takes (W.sent out.old) (W.sent out.new) (behind_commas ((fibre_at net.now.fibres fibre).name ∷ [])) }
 {
@@ -32,7 +31,7 @@ fn put_next_fibre<W: Words>(net: &Net, fibre: u8, out: &mut W)
 }
 
 // A comma and a name for each of these fibres.
-fn put_next_fibres<W: Words>(net: &Net, fibres: &[u8], out: &mut W)
+fn put_next_fibres<W: TextSink>(net: &Net, fibres: &[u8], out: &mut W)
     requires { AreFibres net.now.fibres fibres.now }
     ensures { Takes (W.sent out.old) (W.sent out.new) (behind_commas (names_of_fibres net.now.fibres fibres.now)) }
 {
@@ -42,7 +41,7 @@ fn put_next_fibres<W: Words>(net: &Net, fibres: &[u8], out: &mut W)
 }
 
 // The names of these fibres, with one comma between two of them.
-fn put_fibres<W: Words>(net: &Net, fibres: &[u8], out: &mut W)
+fn put_fibre_list<W: TextSink>(net: &Net, fibres: &[u8], out: &mut W)
     requires { AreFibres net.now.fibres fibres.now }
     ensures { Takes (W.sent out.old) (W.sent out.new) (fibre_list (names_of_fibres net.now.fibres fibres.now)) }
 {
@@ -53,72 +52,72 @@ fn put_fibres<W: Words>(net: &Net, fibres: &[u8], out: &mut W)
 }
 
 /// The fibre list of these fibres.
-#[tactic(auto, using(crate::proofs::WordLaws::one_word))]
-pub(crate) fn push_fibres<W: Words>(net: &Net, fibres: &[u8], out: &mut W)
+#[tactic(auto, using(line_writer::proofs::WordLaws::one_word))]
+pub(crate) fn put_fibres<W: TextSink>(net: &Net, fibres: &[u8], out: &mut W)
     requires { AreFibres net.now.fibres fibres.now }
     ensures { Takes (W.sent out.old) (W.sent out.new) (behind (fibre_list (names_of_fibres net.now.fibres fibres.now) ∷ [])) }
 {
     out.put(b" ");
-    put_fibres(net, fibres, out);
+    put_fibre_list(net, fibres, out);
 }
 
-#[tactic(auto, using(crate::proofs::WordLaws::words))]
-fn push_path<W: Words>(net: &Net, path: &Path, out: &mut W)
+#[tactic(auto, using(line_writer::proofs::WordLaws::words))]
+fn put_path<W: TextSink>(net: &Net, path: &Path, out: &mut W)
     requires { PathInRange net.now path.now }
     ensures { Takes (W.sent out.old) (W.sent out.new) (behind (path_words net.now path.now)) }
 {
-    push_fibres(net, path.route.fibres(), out);
-    push_centre(path.slot.n(), out);
-    push_number(path.slot.m() as u64, out);
+    put_fibres(net, path.route.fibres(), out);
+    put_centre(path.slot.n(), out);
+    put_number(path.slot.m() as u64, out);
 }
 
-#[tactic(auto, using(crate::proofs::WordLaws::words))]
-fn push_backup<W: Words>(net: &Net, back: &Option<Path>, out: &mut W)
+#[tactic(auto, using(line_writer::proofs::WordLaws::words))]
+fn put_backup<W: TextSink>(net: &Net, back: &Option<Path>, out: &mut W)
     requires { IfSome back.now (PathInRange net.now) }
     ensures { Takes (W.sent out.old) (W.sent out.new) (behind (backup_words net.now back.now)) }
 {
     if let Some(path) = back {
-        push_word(b"b", out);
-        push_path(net, path, out);
+        put_word(b"b", out);
+        put_path(net, path, out);
     }
 }
 
 /// `w` and the working path, and `b` and the backup if there is one.
-#[tactic(auto, using(crate::proofs::WordLaws::words))]
-pub(crate) fn push_leg<W: Words>(net: &Net, leg: &Leg, out: &mut W)
+#[tactic(auto, using(line_writer::proofs::WordLaws::words))]
+pub(crate) fn put_leg<W: TextSink>(net: &Net, leg: &Leg, out: &mut W)
     requires { LegInRange net.now leg.now }
     ensures { Takes (W.sent out.old) (W.sent out.new) (behind (leg_words net.now leg.now)) }
 {
-    push_word(b"w", out);
-    push_path(net, &leg.work, out);
-    push_backup(net, &leg.back, out);
+    put_word(b"w", out);
+    put_path(net, &leg.work, out);
+    put_backup(net, &leg.back, out);
 }
 
-#[tactic(auto, using(crate::proofs::WordLaws::words))]
-fn push_to<W: Words>(to: &Option<i16>, out: &mut W)
+#[tactic(auto, using(line_writer::proofs::WordLaws::words))]
+fn put_to<W: TextSink>(to: &Option<i16>, out: &mut W)
     ensures { Takes (W.sent out.old) (W.sent out.new) (behind (target_words to.now)) }
 {
     if let Some(to) = to {
-        push_word(b"to", out);
-        push_centre(*to, out);
+        put_word(b"to", out);
+        put_centre(*to, out);
     }
 }
 
 /// `to` and the centre, while it drifts.
-pub(crate) fn push_target<W: Words>(leg: &Leg, out: &mut W)
+pub(crate) fn put_target<W: TextSink>(leg: &Leg, out: &mut W)
     ensures { Takes (W.sent out.old) (W.sent out.new) (behind (target_words leg.now.to)) }
 {
-    push_to(&leg.to, out);
+    put_to(&leg.to, out);
 }
 
 /// `and` and the new leg, while it is making.
-#[tactic(auto, using(crate::proofs::WordLaws::words))]
-pub(crate) fn push_new_leg<W: Words>(net: &Net, next: &Option<Leg>, out: &mut W)
+#[tactic(auto, using(line_writer::proofs::WordLaws::words))]
+pub(crate) fn put_new_leg<W: TextSink>(net: &Net, next: &Option<Leg>, out: &mut W)
     requires { IfSome next.now (LegInRange net.now) }
     ensures { Takes (W.sent out.old) (W.sent out.new) (behind (new_leg_words net.now next.now)) }
 {
     if let Some(leg) = next {
-        push_word(b"and", out);
-        push_leg(net, leg, out);
+        put_word(b"and", out);
+        put_leg(net, leg, out);
     }
 }

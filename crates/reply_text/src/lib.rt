@@ -3,10 +3,9 @@
 //! it is printed.
 #![tactic(auto)]
 
-mod kept;
+mod in_memory;
 mod legs;
 mod listing;
-mod pieces;
 mod printing;
 pub mod reply;
 mod services;
@@ -14,7 +13,7 @@ mod words;
 mod writing;
 
 pub use eon_model::Part;
-pub use kept::print_reply;
+pub use in_memory::print_reply;
 pub use reply::Reply;
 pub use writing::write_reply;
 

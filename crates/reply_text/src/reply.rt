@@ -22,6 +22,8 @@ pub enum Reply {
     Same { name: Name },
     /// The service has no backup.
     Bare { name: Name },
+    /// The backup of the service is always lit, and stays where it is.
+    Dual { name: Name },
     /// The first service that is in the way.
     Clash { name: Name },
     /// The least group that the working and the backup route share.
@@ -72,4 +74,6 @@ pub enum Reply {
     Report { text: Text },
     /// The run ends.
     Bye,
+    /// The command is not built yet.
+    Later,
 }

@@ -1,13 +1,11 @@
-//! Replies on a small network, and a failure at each call.
+//! Replies on a small network.
 ghost use Rattle.std.specs.Prelude.{◌≡◌, [], IsTrue, IfOk};
 ghost use Rattle.eon_model.specs.NetworkText.{is_network, is_setup, is_table};
 ghost use Rattle.reply_text.specs.Replied.{reply_told};
 ghost use Rattle.reply_text.specs.Tellable.{can_tell};
 
-use crate::pieces::{Pieces, Words};
 use crate::{Reply, print_reply};
 use eon_base::name::Name;
-use eon_outside::MemSink;
 use flex_grid::band::Band;
 use leg_state::Services;
 use net_graph::{Net, NetBuilder};
@@ -95,33 +93,4 @@ fn replies_are_printed(rt: HostRuntime) -> Result<(), Fail> {
     check_printed(&rt, rt.alloc(), &setup, &moved, b"ok push s1 -14 -3\n")?;
     check_printed(&rt, rt.alloc(), &setup, &Reply::List, b"list 0\n")?;
     check_printed(&rt, rt.alloc(), &setup, &Reply::Bye, b"bye\n")
-}
-
-// Hands on three parts of 500 bytes; the call of this number fails.
-fn check_parts(rt: &impl Abort, alloc: Global, failing: u64) -> Result<(), Fail> {
-    let mut fails = Vec::new(alloc);
-    fails.push(failing)?;
-    let mut sink = MemSink::new(alloc, 5000, 700, fails)?;
-    let mut pieces = Pieces::new(&mut sink);
-    pieces.put(&[b'a'; 500]);
-    pieces.put(&[b'b'; 500]);
-    pieces.put(&[b'c'; 500]);
-    let answer = pieces.finish();
-    assert_eq!(rt; answer.is_ok(), failing > 3, "call {failing}");
-    let given = match failing {
-        1 => 0,
-        2 => 700,
-        3 => 1000,
-        _ => 1500,
-    };
-    assert_eq!(rt; sink.given().len(), given, "call {failing}");
-    Ok(())
-}
-
-#[test]
-fn a_failure_leaves_a_front(rt: HostRuntime) -> Result<(), Fail> {
-    for failing in 1..6 {
-        check_parts(&rt, rt.alloc(), failing)?;
-    }
-    Ok(())
 }

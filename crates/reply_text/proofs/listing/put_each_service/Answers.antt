@@ -2,7 +2,7 @@ use Rattle.std.proofs.Common.{ap, subst}
 use Rattle.eon_model.specs.Network.{Network}
 use Rattle.eon_model.specs.Legal.{Setup}
 use Rattle.eon_model.specs.ReplyText.{service_line}
-use Rattle.reply_text.specs.Sent.{Takes}
+use Rattle.line_writer.specs.Sent.{Takes}
 use Rattle.plan_report.proofs.InRangeLaws.{service_at-on}
 use Rattle.reply_text.proofs.ListingLaws.{next_text}
 use Rattle.reply_text.proofs.listing.put_each_service.Goals as goal
@@ -16,7 +16,7 @@ put_service-requires g c =
 pub loop-i-preserved : goal.loop-i-preserved
 loop-i-preserved g c =
     let net = ap (λ (v : Setup). v.network) c.setup.view_is in
-    let more = subst (λ (v : Network). Takes (g.W.Words.sent c.loop-i.out) (g.W.Words.sent c.put_service.new.out)
+    let more = subst (λ (v : Network). Takes (g.W.TextSink.sent c.loop-i.out) (g.W.TextSink.sent c.put_service.new.out)
     (service_line v c.at.result.now)) net c.put_service.ensures in
     next_text (service_line c.args.setup.now.network) c.args.services.now.list c.loop-i.i c.at.result.now _ _ _
     c.at.ensures.service c.loop-i.invariant more

@@ -1,7 +1,7 @@
-use Rattle.reply_text.proofs.SentLaws.{takes-both}
+use Rattle.line_writer.proofs.TakesLaws.{takes-both}
 use Rattle.reply_text.proofs.listing.put_routes.Goals as goal
 
 pub returns : goal.returns
 returns g c =
-    let count = rw c.len.ensures at c.put_count.ensures in
+    let count = rw c.len.ensures at c.put_count_line.ensures in
     takes-both _ _ _ _ _ count c.put_each_route.ensures

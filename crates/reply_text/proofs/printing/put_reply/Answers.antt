@@ -5,55 +5,58 @@ use Rattle.std.proofs.lemmas.Int.{to_z-of_z}
 use Rattle.reply_text.proofs.printing.put_reply.Goals as goal
 
 pub returns-in-Line : goal.returns-in-Line
-returns-in-Line g c = rw c.in-Line.is c.put_number.ensures
+returns-in-Line g c = rw c.in-Line.is c.put_number_line.ensures
 
 pub returns-in-Unknown : goal.returns-in-Unknown
-returns-in-Unknown g c = rw c.in-Unknown.is c.put_name.ensures
+returns-in-Unknown g c = rw c.in-Unknown.is c.put_name_line.ensures
 
 pub returns-in-Taken : goal.returns-in-Taken
-returns-in-Taken g c = rw c.in-Taken.is c.put_name-in-Taken.ensures
+returns-in-Taken g c = rw c.in-Taken.is c.put_name_line-in-Taken.ensures
 
 pub returns-in-Busy : goal.returns-in-Busy
-returns-in-Busy g c = rw c.in-Busy.is c.put_name-in-Busy.ensures
+returns-in-Busy g c = rw c.in-Busy.is c.put_name_line-in-Busy.ensures
 
 pub returns-in-Idle : goal.returns-in-Idle
-returns-in-Idle g c = rw c.in-Idle.is c.put_name-in-Idle.ensures
+returns-in-Idle g c = rw c.in-Idle.is c.put_name_line-in-Idle.ensures
 
 pub returns-in-Same : goal.returns-in-Same
-returns-in-Same g c = rw c.in-Same.is c.put_name-in-Same.ensures
+returns-in-Same g c = rw c.in-Same.is c.put_name_line-in-Same.ensures
 
 pub returns-in-Bare : goal.returns-in-Bare
-returns-in-Bare g c = rw c.in-Bare.is c.put_name-in-Bare.ensures
+returns-in-Bare g c = rw c.in-Bare.is c.put_name_line-in-Bare.ensures
+
+pub returns-in-Dual : goal.returns-in-Dual
+returns-in-Dual g c = rw c.in-Dual.is c.put_name_line-in-Dual.ensures
 
 pub returns-in-Clash : goal.returns-in-Clash
-returns-in-Clash g c = rw c.in-Clash.is c.put_name-in-Clash.ensures
+returns-in-Clash g c = rw c.in-Clash.is c.put_name_line-in-Clash.ensures
 
 pub returns-in-Risk : goal.returns-in-Risk
-returns-in-Risk g c = rw c.in-Risk.is c.put_name-in-Risk.ensures
+returns-in-Risk g c = rw c.in-Risk.is c.put_name_line-in-Risk.ensures
 
 pub returns-in-Path : goal.returns-in-Path
-returns-in-Path g c = rw c.in-Path.is c.put_part.ensures
+returns-in-Path g c = rw c.in-Path.is c.put_part_line.ensures
 
 pub returns-in-Reach : goal.returns-in-Reach
-returns-in-Reach g c = rw c.in-Reach.is c.put_part-in-Reach.ensures
+returns-in-Reach g c = rw c.in-Reach.is c.put_part_line-in-Reach.ensures
 
 pub returns-in-Band : goal.returns-in-Band
-returns-in-Band g c = rw c.in-Band.is c.put_part-in-Band.ensures
+returns-in-Band g c = rw c.in-Band.is c.put_part_line-in-Band.ensures
 
 pub returns-in-FullServices : goal.returns-in-FullServices
 returns-in-FullServices g c = rw c.in-FullServices.is c.put_two.ensures
 
 pub returns-in-NoRoute : goal.returns-in-NoRoute
-returns-in-NoRoute g c = rw c.in-NoRoute.is c.put_line.ensures
+returns-in-NoRoute g c = rw c.in-NoRoute.is c.put_alone.ensures
 
 pub returns-in-Blocked : goal.returns-in-Blocked
-returns-in-Blocked g c = rw c.in-Blocked.is c.put_number-in-Blocked.ensures
+returns-in-Blocked g c = rw c.in-Blocked.is c.put_number_line-in-Blocked.ensures
 
 pub returns-in-FullJournal : goal.returns-in-FullJournal
 returns-in-FullJournal g c = rw c.in-FullJournal.is c.put_full_journal.ensures
 
 pub returns-in-Memory : goal.returns-in-Memory
-returns-in-Memory g c = rw c.in-Memory.is c.put_line-in-Memory.ensures
+returns-in-Memory g c = rw c.in-Memory.is c.put_alone-in-Memory.ensures
 
 pub returns-in-Placed : goal.returns-in-Placed
 returns-in-Placed g c = rw c.in-Placed.is c.put_placed.ensures
@@ -110,4 +113,7 @@ returns-in-Report g c =
     rw c.in-Report.is text
 
 pub returns-in-Bye : goal.returns-in-Bye
-returns-in-Bye g c = rw c.in-Bye.is c.put_line-in-Bye.ensures
+returns-in-Bye g c = rw c.in-Bye.is c.put_alone-in-Bye.ensures
+
+pub returns-in-Later : goal.returns-in-Later
+returns-in-Later g c = rw c.in-Later.is c.put_alone-in-Later.ensures

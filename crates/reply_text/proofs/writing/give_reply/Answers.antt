@@ -1,13 +1,14 @@
 use Rattle.std.proofs.Common.{◌∙◌}
-use Rattle.reply_text.proofs.SentLaws.{ends-whole}
+use Rattle.line_writer.proofs.TakesLaws.{sink-ends}
 use Rattle.reply_text.proofs.writing.give_reply.Goals as goal
 
 pub returns : goal.returns
 returns g c =
-    let told = ends-whole c.finish.result _ _ _ _ _ c.requires.held c.requires.going c.put_reply.ensures c.finish.ensures.ends in
+    let told = sink-ends c.finish.result _ _ _ c.requires.going c.put_reply.ensures c.finish.ensures.whole
+    c.finish.ensures.stopped in
     record {
-      sink = c.finish.ensures.sink ∙ c.put_reply.ensures.sink;
+      place = c.put_reply.ensures.place;
       bytes = told.0;
       part = told.1;
-      cause = told.2;
+      stands = told.2;
     }

@@ -1,5 +1,0 @@
-use Rattle.reply_text.proofs.WordLaws.{line_taken}
-use Rattle.reply_text.proofs.listing.put_count.Goals as goal
-
-pub returns : goal.returns
-returns g c = line_taken _ _ _ _ _ _ c.put.ensures c.push_number.ensures c.put-2.ensures
