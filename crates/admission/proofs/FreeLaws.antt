@@ -10,7 +10,7 @@ use Rattle.eon_model.proofs.SetLists.{same_test}
 use Rattle.admission.proofs.SpanLaws.{span-facts}
 use Rattle.admission.specs.declared.row.Row.{Row}
 use Rattle.admission.specs.Free.{is_taken, are_free, are_within, Takes}
-use Rattle.admission.proofs.UnitLemmas.{all-at, all-from}
+use Rattle.eon_model.proofs.UnitLaws.{all-at, all-from}
 
 -- ---- units of a row
 
