@@ -16,4 +16,4 @@ pub mod LineLaws
 pub mod CodeSteps
 pub mod VerbSteps
 pub mod ReadSteps
-pub mod AddLaws
+pub mod PrintLaws

@@ -4,5 +4,4 @@ pub mod Lines
 pub mod Given
 pub mod Told
 pub mod Words
-pub mod Adding
 pub mod Laws

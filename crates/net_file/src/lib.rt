@@ -5,16 +5,12 @@
 mod cut;
 mod draft;
 pub mod fault;
-#[cfg(test)]
-mod fault_tests;
 mod fields;
 pub mod laws;
 mod line_words;
 mod lines;
 mod parts;
 mod printing;
-#[cfg(test)]
-mod printing_tests;
 pub mod reading;
 #[cfg(test)]
 mod tests;
