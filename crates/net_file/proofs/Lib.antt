@@ -35,6 +35,6 @@ pub mod TextNetworks
 pub mod TextWhole
 pub mod TextRuns
 pub mod TextGoesOn
-pub mod PrintAdds
+pub mod PrintNumbers
 pub mod PrintGroups
 pub mod RefusedLaws

@@ -13,8 +13,9 @@ use Rattle.eon_model.proofs.NetworkReadLaws.{length_names}
 use Rattle.eon_model.proofs.SetLists.{has-set_of}
 use Rattle.net_graph.specs.Graph.{is_graph}
 use Rattle.net_graph.proofs.GraphParts.{parts_of}
-use Rattle.net_file.specs.PrintWords.{behind, each_below, group_at, member_text}
-use Rattle.net_file.proofs.PrintAdds.{below-some, behind-map}
+use Rattle.net_file.specs.PrintWords.{each_below, group_at, member_text}
+use Rattle.line_writer.specs.Words.{behind}
+use Rattle.net_file.proofs.PrintNumbers.{below-some, behind-map}
 use Rattle.net_file.proofs.TextGroups.{in_list}
 
 -- ---- fibres
@@ -120,5 +121,5 @@ members-all net j h l =
     && nat_le 1 (length g.fibres) && in_list fs g.fibres) (numbers_ascend g.fibres) good in
     let b = and_parts (is_name g.name && not (has_name (fibre_names fs) g.name)
     && nat_le 1 (length g.fibres)) (in_list fs g.fibres) a.0 in
-    below-some (λ i. 32 ∷ (fibre_at fs i).name) (length fs) g.fibres b.1 a.1
+    below-some (λ i. behind ((fibre_at fs i).name ∷ [])) (length fs) g.fibres b.1 a.1
     ∙ behind-map (λ i. (fibre_at fs i).name) g.fibres

@@ -1,5 +1,5 @@
--- What is added at the end of a text, and the texts of parts by their numbers.
-use Rattle.std.specs.Prelude.{◌≡◌, ℕ, zero, suc, List, [], ◌∷◌, ◌++◌, Result, Ok, Err, slice_get, codes, if◌then◌else◌}
+-- The texts of parts by their numbers.
+use Rattle.std.specs.Prelude.{ℕ, zero, suc, List, [], ◌∷◌, ◌++◌, slice_get, codes, if◌then◌else◌}
 use Rattle.std.specs.Option.{unwrap_or}
 use Rattle.std.specs.List.{flat_map}
 use Rattle.eon_model.specs.Legal.{Setup}
@@ -7,23 +7,7 @@ use Rattle.eon_model.specs.NetworkText.{number_line, band_line, version_of}
 use Rattle.eon_model.specs.Lists.{has_number}
 use Rattle.eon_model.specs.Network.{Network, Group, fibre_at}
 use Rattle.eon_model.specs.Formats.{Format}
-
--- ---- adding
-
--- the text begins as before
-pub record Grew (before now : List ℕ) : Type 0 where
-  pub more : List ℕ
-  pub is : now ≡ before ++ more
-
--- these bytes were added; where memory ran out, perhaps a part of them
-abbrev pub Adds : {X E : Type 0} → Result X E → List ℕ → List ℕ → List ℕ → Type 0
-Adds (Ok x) before now bytes = now ≡ before ++ bytes
-Adds (Err e) before now bytes = Grew before now
-
--- the words, each behind a space
-abbrev pub behind : List (List ℕ) → List ℕ
-behind [] = []
-behind (w ∷ ws) = 32 ∷ w ++ behind ws
+use Rattle.line_writer.specs.Words.{behind}
 
 -- ---- by number
 
@@ -51,7 +35,7 @@ group_at groups i = unwrap_or (slice_get groups i) no_group
 -- the fibre's name behind a space, where the named group holds it
 abbrev pub member_text : Network → ℕ → ℕ → List ℕ
 member_text net group fibre =
-    if has_number (group_at net.groups group).fibres fibre then 32 ∷ (fibre_at net.fibres fibre).name else []
+    if has_number (group_at net.groups group).fibres fibre then behind ((fibre_at net.fibres fibre).name ∷ []) else []
 
 -- ---- the front
 

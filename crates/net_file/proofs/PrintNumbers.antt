@@ -1,82 +1,33 @@
--- Bytes added one after the other, and the texts of parts by their numbers.
+-- Texts of parts by their numbers.
 use Rattle.std.proofs.Common.{◌≡◌, refl, sym, ◌∙◌, ap, subst, inl, inr, ℕ, zero, suc, ◌+◌, ◌<◌, ◌≤◌, true, false, cond, ◌||◌, List, [], ◌∷◌, ◌++◌, length, map, take, get_or, Bor, slice_get, slice_index_or, Result, Ok, Err, ◌⊎◌, nat_eq, nat_lt, append_assoc, zero-add, arith}
 use Rattle.std.specs.Prelude.{codes}
 use Rattle.eon_model.specs.NetworkText.{number_line}
 use Rattle.std.specs.Option.{unwrap_or}
 use Rattle.std.specs.List.{flat_map, list_all}
-use Rattle.std.specs.Result.{IsErrAnd}
 use Rattle.std.proofs.lemmas.List.{append-nil, map-append, take_more}
-use Rattle.std.proofs.lemmas.Result.{err_from_is_err_and}
 use Rattle.std.proofs.lemmas.Bool.{and_parts, ltb-true, ne_eqb, eq-eqb, cases_eq, or_from}
 use Rattle.eon_model.specs.Lists.{has_number, numbers_ascend}
 use Rattle.eon_model.proofs.OrderLaws.{AllOf}
 use Rattle.eon_model.specs.Spelling.{spaced, line}
-use Rattle.net_file.specs.PrintWords.{Grew, Adds, behind, each_below}
-
--- ---- adding
-
-pub grew-on : (a b c x : List ℕ) → b ≡ a ++ x → Grew b c → Grew a c
-grew-on a b c x e g = record { more = x ++ g.more; is = g.is ∙ ap (λ v. v ++ g.more) e ∙ append_assoc a x g.more }
-
-pub adds-both : (a b c x y : List ℕ) → b ≡ a ++ x → c ≡ b ++ y → c ≡ a ++ (x ++ y)
-adds-both a b c x y e f = f ∙ ap (λ v. v ++ y) e ∙ append_assoc a x y
-
--- these bytes and then those
-pub adds-on : {X E : Type 0} (r : Result X E) (a b c x y : List ℕ) → b ≡ a ++ x → Adds r b c y → Adds r a c (x ++ y)
-adds-on (Ok v) a b c x y e h = adds-both a b c x y e h
-adds-on (Err v) a b c x y e h = grew-on a b c x e h
-
-pub adds-same : {X E : Type 0} (r : Result X E) (a c x y : List ℕ) → x ≡ y → Adds r a c x → Adds r a c y
-adds-same r a c x y e h = subst (λ (v : List ℕ). Adds r a c v) e h
-
--- want of memory
-pub adds-err : {X E : Type 0} (Q : E → Type 0) (r : Result X E) (a c x : List ℕ) → IsErrAnd r Q → Grew a c → Adds r a c x
-adds-err Q r a c x h g =
-    let p = err_from_is_err_and r h in subst (λ (v : Result _ _). Adds v a c x) (sym p.1) g
-
-pub grew-same : (a : List ℕ) → Grew a a
-grew-same a = record { more = []; is = sym (append-nil a) }
-
--- ---- words
-
-pub spaced-behind : (w : List ℕ) (ws : List (List ℕ)) → spaced (w ∷ ws) ≡ w ++ behind ws
-spaced-behind w [] = sym (append-nil w)
-spaced-behind w (v ∷ ws) = ap (λ (xs : List ℕ). w ++ 32 ∷ xs) (spaced-behind v ws)
-
-pub behind-append : (vs ws : List (List ℕ)) → behind (vs ++ ws) ≡ behind vs ++ behind ws
-behind-append [] ws = refl
-behind-append (v ∷ vs) ws =
-    ap (λ (xs : List ℕ). 32 ∷ v ++ xs) (behind-append vs ws)
-    ∙ ap (λ (xs : List ℕ). 32 ∷ xs) (sym (append_assoc v (behind vs) (behind ws)))
-
--- one more word
-pub words-more : (a b c : List ℕ) (ws : List (Bor (List ℕ))) (i : ℕ) (d : Bor (List ℕ)) → i < length ws →
-    b ≡ a ++ behind (map (λ w. w.now) (take i ws)) → c ≡ b ++ 32 ∷ (get_or ws i d).now →
-    c ≡ a ++ behind (map (λ w. w.now) (take (i + 1) ws))
-words-more a b c ws i d l e f =
-    let name = λ (w : Bor (List ℕ)). w.now in
-    let word = (get_or ws i d).now in
-    adds-both a b c (behind (map name (take i ws))) (32 ∷ word) e f
-    ∙ ap (λ v. a ++ v) (sym (ap (λ v. behind (map name v)) (take_more ws i d l)
-    ∙ ap behind (map-append name (take i ws) (get_or ws i d ∷ []))
-    ∙ behind-append (map name (take i ws)) (word ∷ [])
-    ∙ ap (λ (v : List ℕ). behind (map name (take i ws)) ++ 32 ∷ v) (append-nil word)))
-
--- a line by its parts
-pub line-made : (a b c d w : List ℕ) (ws : List (List ℕ)) → b ≡ a ++ w → c ≡ b ++ behind ws → d ≡ c ++ 10 ∷ [] →
-    d ≡ a ++ line (w ∷ ws)
-line-made a b c d w ws e f g =
-    adds-both a c d (w ++ behind ws) (10 ∷ []) (adds-both a b c w (behind ws) e f) g
-    ∙ ap (λ v. a ++ (v ++ 10 ∷ [])) (sym (spaced-behind w ws))
+use Rattle.line_writer.specs.Sent.{Sent, Takes}
+use Rattle.line_writer.specs.Words.{behind}
+use Rattle.line_writer.proofs.TakesLaws.{takes-both, takes-same}
+use Rattle.line_writer.proofs.WordLaws.{behind-append}
+use Rattle.net_file.specs.PrintWords.{each_below}
 
 -- ---- by number
 
+no-words : behind [] ≡ []
+unfolding behind
+no-words = refl
+
 -- one more number
-pub below-more : (a b c : List ℕ) (text : ℕ → List ℕ) (i : ℕ) → b ≡ a ++ each_below text i → c ≡ b ++ text i →
-    c ≡ a ++ each_below text (i + 1)
-below-more a b c text i e f =
+pub below-taken : (a b c : Sent) (text : ℕ → List ℕ) (i : ℕ) → Takes a b (each_below text i) → Takes b c (text i) →
+    Takes a c (each_below text (i + 1))
+below-taken a b c text i p q =
     let one : i + 1 ≡ suc i = omega arith in
-    adds-both a b c (each_below text i) (text i) e f ∙ ap (λ n. a ++ each_below text n) (sym one)
+    takes-same a c (each_below text (suc i)) (each_below text (i + 1)) (ap (each_below text) (sym one))
+    (takes-both a b c (each_below text i) (text i) p q)
 
 below-first : (text : ℕ → List ℕ) (n : ℕ) → each_below text (suc n) ≡ text 0 ++ each_below (λ i. text (suc i)) n
 below-first text zero = sym (append-nil (text 0))
@@ -199,29 +150,19 @@ below-some text n numbers below up =
         let p = and_parts (nat_lt k m) (list_all (λ j. nat_lt j m) ks) h in
         let l = ltb-true k m p.0 in (omega arith, at_most m ks p.1)
 
--- words by number, each behind a space
-pub behind-map : (name : ℕ → List ℕ) (ns : List ℕ) → flat_map (λ i. 32 ∷ name i) ns ≡ behind (map name ns)
-behind-map name [] = refl
-behind-map name (n ∷ ns) = ap (λ (v : List ℕ). 32 ∷ name n ++ v) (behind-map name ns)
+-- words by number
+pub behind-map : (name : ℕ → List ℕ) (ns : List ℕ) → flat_map (λ i. behind (name i ∷ [])) ns ≡ behind (map name ns)
+behind-map name [] = sym no-words
+behind-map name (n ∷ ns) =
+    ap (λ (v : List ℕ). behind (name n ∷ []) ++ v) (behind-map name ns)
+    ∙ sym (behind-append (name n ∷ []) (map name ns))
 
 -- ---- at the end
 
 -- all numbers
-pub below-end : (a b : List ℕ) (text : ℕ → List ℕ) (i n : ℕ) (all : List ℕ) → i ≡ n → each_below text n ≡ all →
-    b ≡ a ++ each_below text i → b ≡ a ++ all
-below-end a b text i n all e f g = g ∙ ap (λ v. a ++ v) (ap (each_below text) e ∙ f)
-
--- a line by its parts, the last of which may have wanted memory
-pub adds-line : {X E : Type 0} (r : Result X E) (a b c d w : List ℕ) (ws : List (List ℕ)) → b ≡ a ++ w →
-    c ≡ b ++ behind ws → Adds r c d (10 ∷ []) → Adds r a d (line (w ∷ ws))
-adds-line r a b c d w ws e f h =
-    adds-same r a d ((w ++ behind ws) ++ 10 ∷ []) (line (w ∷ ws)) (ap (λ v. v ++ 10 ∷ []) (sym (spaced-behind w ws)))
-    (adds-on r a c d (w ++ behind ws) (10 ∷ []) (adds-both a b c w (behind ws) e f) h)
-
--- the same of a line of a word, a name and names
-pub adds-named : {X E : Type 0} (r : Result X E) (a b c d e w n : List ℕ) (ws : List (List ℕ)) → b ≡ a ++ w →
-    c ≡ b ++ 32 ∷ n → d ≡ c ++ behind ws → Adds r d e (10 ∷ []) → Adds r a e (line (w ∷ n ∷ ws))
-adds-named r a b c d e w n ws p q s h = adds-line r a b d e w (n ∷ ws) p (adds-both b c d (32 ∷ n) (behind ws) q s) h
+pub below-end : (a b : Sent) (text : ℕ → List ℕ) (i n : ℕ) (all : List ℕ) → i ≡ n → each_below text n ≡ all →
+    Takes a b (each_below text i) → Takes a b all
+below-end a b text i n all e f p = takes-same a b (each_below text i) all (ap (each_below text) e ∙ f) p
 
 -- the lines before the formats, with the same numbers
 pub front-same : (m n : ℕ) (band : List ℕ) → m ≡ n → (a b c d e f g h : ℕ) → a ≡ b → c ≡ d → e ≡ f → g ≡ h →

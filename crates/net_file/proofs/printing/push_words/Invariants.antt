@@ -1,6 +1,0 @@
-use Rattle.std.proofs.Common.{◌≡◌, ◌++◌, map, take}
-use Rattle.net_file.specs.PrintWords.{behind}
-use Rattle.net_file.proofs.printing.push_words.Given as goal
-
-abbrev pub invariant-loop-word : goal.invariant-loop-word
-invariant-loop-word l = l.out.items ≡ l.fn.out.items ++ behind (map (λ w. w.now) (take l.word-index l.words))

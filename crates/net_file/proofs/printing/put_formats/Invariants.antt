@@ -1,0 +1,9 @@
+use Rattle.eon_model.specs.NetworkText.{format_line}
+use Rattle.net_file.specs.PrintWords.{format_at}
+use Rattle.line_writer.specs.Sent.{Takes}
+use Rattle.net_file.specs.PrintWords.{each_below}
+use Rattle.net_file.proofs.printing.put_formats.Given as goal
+
+abbrev pub invariant-loop-i : goal.invariant-loop-i
+invariant-loop-i g l =
+    Takes (g.W.TextSink.sent l.fn.out) (g.W.TextSink.sent l.out) (each_below (λ i. format_line (format_at l.table.rows i)) l.i)
