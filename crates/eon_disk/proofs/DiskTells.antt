@@ -1,15 +1,15 @@
 -- What the calls of a disk in memory tell of it as a disk.
-use Rattle.std.proofs.Common.{◌≡◌, refl, sym, ◌∙◌, ap, subst, inl, inr, ℕ, ◌+◌, ◌≤◌, Bool, true, false, ◌&&◌, ◌||◌, not, List, [], ◌∷◌, ◌++◌, length, take, Option, Some, None, Result, Ok, Err, is_err, arith}
+use Rattle.std.proofs.Common.{◌≡◌, refl, sym, ◌∙◌, ap, subst, inl, inr, ℕ, ◌≤◌, Bool, true, false, ◌&&◌, ◌||◌, not, List, [], ◌∷◌, ◌++◌, length, Option, Some, None, Result, Ok, Err, is_err, arith}
 use Rattle.std.specs.Prelude.{nat_le, nat_lt, OnOk, OnErr, if◌then◌else◌}
 use Rattle.std.specs.Option.{option_map_or}
-use Rattle.std.proofs.lemmas.Bool.{or_parts, and_from, le-leb, ltb-false, leb-false, not_from_false, cases_Bool, both_ways, leb-true, ltb-true, lt-ltb}
-use Rattle.eon_model.specs.Disk.{put, Torn, Cut, Follows, Unchanged, Only, Elapses}
+use Rattle.std.proofs.lemmas.Bool.{le-leb, ltb-false, leb-false, cases_Bool, both_ways, ltb-true}
+use Rattle.eon_model.specs.Disk.{put, Torn, Follows, Elapses}
 use Rattle.eon_outside.specs.Faults.{counted, Counts}
 use Rattle.eon_outside.specs.Memory.{is_due}
-use Rattle.eon_disk.specs.Asked.{Asked, last_name, asked_of}
-use Rattle.eon_disk.specs.HeldBytes.{HeldBytes, MayLeave, MayHaveLeft, with_piece, cut_to, synced}
+use Rattle.eon_disk.specs.Asked.{last_name, asked_of}
+use Rattle.eon_disk.specs.HeldBytes.{HeldBytes, MayLeave, MayHaveLeft, with_piece}
 use Rattle.eon_disk.specs.HeldDisk.{HeldDisk, is_stopped, is_past_stop, fails, takes_place, room_for_write, after_no_change, after_change, after_write_call, after_step_call, after_attach}
-use Rattle.eon_disk.proofs.HeldLaws.{IsSound, unchanged, no_time, not_torn, not_cut, time_goes, piece-kept, piece-torn, cut-kept, cut-follows, synced-only, synced-none_new}
+use Rattle.eon_disk.proofs.HeldLaws.{IsSound, no_time, not_torn, time_goes, piece-kept, piece-torn}
 
 -- ---- names
 

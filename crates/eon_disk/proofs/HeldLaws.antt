@@ -1,8 +1,8 @@
 -- What a crash may leave of a disk in memory, call by call.
-use Rattle.std.proofs.Common.{◌≡◌, refl, sym, ◌∙◌, ap, subst, ◌⊎◌, inl, inr, ℕ, zero, suc, ◌+◌, ◌≤◌, ◌<◌, List, [], ◌∷◌, ◌++◌, length, take, drop, arith}
+use Rattle.std.proofs.Common.{◌≡◌, refl, sym, ap, subst, ◌⊎◌, inl, inr, ℕ, zero, suc, ◌≤◌, List, [], ◌∷◌, ◌++◌, length, take, drop, arith}
 use Rattle.std.proofs.lemmas.List.{length-append}
-use Rattle.eon_model.specs.Disk.{put, Torn, Cut, Follows, Unchanged, Only, Elapses}
-use Rattle.eon_model.specs.DiskImages.{Unsynced, IsImage, settled, after_write, after_cut, HadBeen}
+use Rattle.eon_model.specs.Disk.{Torn, Cut, Follows, Unchanged, Only, Elapses}
+use Rattle.eon_model.specs.DiskImages.{Unsynced, IsImage, HadBeen}
 use Rattle.eon_model.proofs.DiskLaws.{writes-told}
 use Rattle.eon_model.proofs.DiskCuts.{cuts-told, syncs-told}
 use Rattle.eon_disk.specs.HeldBytes.{HeldBytes, MayLeave, MayHaveLeft, later, with_piece, cut_to, synced}

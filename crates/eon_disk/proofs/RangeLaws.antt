@@ -3,7 +3,7 @@ use Rattle.std.proofs.Common.{◌≡◌, refl, sym, ◌∙◌, ap, subst, ℕ, �
 use Rattle.std.specs.Prelude.{nat_le, nat_lt, ◌⊎◌, if◌then◌else◌}
 use Rattle.std.proofs.lemmas.List.{length-set, get_or-set_other}
 use Rattle.std.proofs.lemmas.Grind.{get_or-set_at}
-use Rattle.std.proofs.lemmas.Bool.{cases_lt, cases_eq, or_cases, or_left, or_right, and_parts, cases_Bool, or_parts, and_cases, leb-true, ltb-true, leb-false, ltb-false, both_ways}
+use Rattle.std.proofs.lemmas.Bool.{cases_lt, cases_eq, cases_Bool, leb-true, ltb-true}
 use Rattle.eon_model.specs.Disk.{put}
 use Rattle.eon_model.specs.DiskImages.{Unsynced, IsImage, Outside, after_write}
 use Rattle.eon_model.proofs.DiskLaws.{writes-told}

@@ -1,5 +1,5 @@
 -- What is asked of a disk that tells nothing.
-use Rattle.std.proofs.Common.{◌≡◌, refl, inl, ℕ, ◌+◌, ◌≤◌, List, length, take, Result, Ok, Err, OnErr, arith}
+use Rattle.std.proofs.Common.{refl, inl, ℕ, List, Result, Ok, Err, OnErr, arith}
 use Rattle.std.specs.Prelude.{⊤, OnOk}
 use Rattle.eon_model.specs.Disk.{Torn, Cut, Follows, Unchanged, Elapses}
 use Rattle.eon_disk.proofs.HeldLaws.{take-all}

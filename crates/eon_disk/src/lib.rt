@@ -11,3 +11,6 @@ pub mod real_file;
 pub use disk::{Deck, Disk, DiskFailed};
 pub use disk_in_memory::{Fill, MemDisk};
 pub use real_file::FileDeck;
+
+#[cfg(test)]
+mod tests;

@@ -1,4 +1,4 @@
-use Rattle.std.proofs.Common.{◌≡◌, ◌∙◌, ap, Bool, Some, true, false}
+use Rattle.std.proofs.Common.{◌∙◌, ap, Bool, Some, true, false}
 use Rattle.eon_disk.specs.Asked.{asked_of}
 use Rattle.eon_disk.specs.HeldDisk.{HeldDisk, after_no_change, after_attach}
 use Rattle.eon_disk.proofs.DiskTells.{attached}

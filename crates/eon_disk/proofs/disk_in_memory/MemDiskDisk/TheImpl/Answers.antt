@@ -1,7 +1,6 @@
-use Rattle.std.proofs.Common.{◌≡◌, refl, ap, Some, take, List, ℕ, length}
+use Rattle.std.proofs.Common.{◌≡◌, refl, ap, Some, take, List, ℕ}
 use Rattle.eon_model.specs.Disk.{Cut, Follows, Unchanged, Only}
-use Rattle.eon_disk.specs.HeldBytes.{HeldBytes, MayLeave, cut_to, synced}
-use Rattle.eon_disk.specs.HeldDisk.{HeldDisk}
+use Rattle.eon_disk.specs.HeldBytes.{MayLeave, cut_to, synced}
 use Rattle.eon_disk.proofs.HeldLaws.{unchanged, no_time, not_cut, time_goes, cut-kept, cut-follows, synced-only, synced-none_new}
 use Rattle.eon_disk.proofs.DiskTells.{write-torn, write-kept, write-time, write-asked, write-counts, write-now, step-asked, step-counts, step-held, step-ok, step-err, Goes}
 use Rattle.eon_disk.proofs.disk_in_memory.MemDiskDisk.TheImpl.Goals as goal

@@ -1,4 +1,4 @@
-use Rattle.std.proofs.Common.{◌≡◌, ◌≤◌, sym, ap, subst, length}
+use Rattle.std.proofs.Common.{◌≤◌, sym, subst, length}
 use Rattle.eon_disk.specs.HeldBytes.{Roomy}
 use Rattle.eon_disk.proofs.RangeLaws.{image-written, ranges-pushed}
 use Rattle.eon_disk.proofs.medium.Medium.put.Goals as goal
