@@ -75,6 +75,7 @@ impl MemDisk {
         ensures asked { IfOk result (λ d. d.asked ≡ None) }
     {
         let medium = Medium::new(alloc, bytes, room)?;
+        // its clause: the bytes as read are an image
         let _image = medium.bytes();
         Ok(MemDisk {
             medium,
@@ -140,6 +141,7 @@ impl MemDisk {
         ensures { self.new ≡ record self.old { held = with_piece at piece.now self.old.held; room = self.old.room - room_for_write piece.now } }
     {
         self.medium.put(at as usize, piece);
+        // its clause: the bytes as read are an image
         let _image = self.medium.bytes();
         self.room -= ROOM_FOR_STEP + piece.len();
     }
@@ -259,6 +261,7 @@ impl Disk for MemDisk {
             return Err(DiskFailed);
         }
         self.medium.cut(len as usize);
+        // its clause: the bytes as read are an image
         let _image = self.medium.bytes();
         self.room -= ROOM_FOR_STEP;
         Ok(())
@@ -273,6 +276,7 @@ impl Disk for MemDisk {
             return Err(DiskFailed);
         }
         self.medium.sync();
+        // its clause: the bytes as read are an image
         let _image = self.medium.bytes();
         self.room -= ROOM_FOR_STEP;
         Ok(())
