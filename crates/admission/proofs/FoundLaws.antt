@@ -12,28 +12,12 @@ use Rattle.eon_model.proofs.OrderLaws.{AllOf}
 use Rattle.eon_model.proofs.ListLaws.{AllOf-append, AllOf-more}
 use Rattle.eon_model.proofs.FindLaws.{find-passes}
 use Rattle.admission.specs.declared.placing.Found.{Found}
-use Rattle.admission.specs.declared.placing.Admit.TheVariants.{NoRoute, Blocked, Placed}
+use Rattle.admission.specs.declared.placing.Admit.TheVariants.{Placed}
 use Rattle.admission.specs.FirstClear.{stands_in, is_clear_with, placement_stands, first_clear}
 use Rattle.admission.specs.Told.{found_at, answer_for, placement_at, back_can_be_made, can_be_made, IsPlaceOn}
 use Rattle.eon_model.proofs.SuitLaws.{HasBack, on_candidate}
 
 -- ---- the answers
-
-pub no_route-told : (pairs : ℕ) (first : Option Placement) → NoRoute ≡ answer_for pairs first → pairs ≡ 0
-no_route-told zero first e = refl
-no_route-told (suc n) None e = cc
-no_route-told (suc n) (Some p) e = cc
-
-pub record IsBlocked (pairs told : ℕ) (first : Option Placement) : Type 0 where
-  pub number : told ≡ pairs
-  pub some : 0 < pairs
-  pub none_fits : first ≡ None
-
-pub blocked-told : (pairs told : ℕ) (first : Option Placement) → Blocked told ≡ answer_for pairs first →
-    IsBlocked pairs told first
-blocked-told zero told first e = cc
-blocked-told (suc n) told None e = record { number = cc; some = omega arith; none_fits = refl }
-blocked-told (suc n) told (Some p) e = cc
 
 pub record IsTold (pairs : ℕ) (f : Found) (first : Option Placement) : Type 0 where
   pub place : Placement
