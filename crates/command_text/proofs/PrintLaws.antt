@@ -1,5 +1,5 @@
 -- The text of a command is its verb with the words behind it.
-use Rattle.std.proofs.Common.{◌≡◌, sym, ◌∙◌, ap, ℕ, List, ◌++◌}
+use Rattle.std.proofs.Common.{◌≡◌, ◌∙◌, ap, ◌++◌}
 use Rattle.eon_model.specs.Commands.{Command}
 use Rattle.eon_model.specs.CommandText.{command_text}
 use Rattle.eon_model.specs.Spelling.{spaced}

@@ -1,5 +1,5 @@
 -- The line of a part of the band.
-use Rattle.std.proofs.Common.{◌≡◌, refl, sym, ◌∙◌, ap, ℕ, ◌-◌, ◌<◌, ◌^◌, ℤ, ◌≤ℤ◌, pos, negsuc, Bool, true, false, cond, ◌&&◌, ◌||◌, not, List, [], ◌∷◌, length, map, nat_eq, Option, Some, None, is_some, arith}
+use Rattle.std.proofs.Common.{◌≡◌, refl, sym, ◌∙◌, ap, ℕ, ◌-◌, ◌<◌, ◌^◌, ℤ, pos, negsuc, Bool, true, false, cond, ◌&&◌, ◌||◌, not, List, [], ◌∷◌, length, map, nat_eq, Option, Some, None, is_some, arith}
 use Rattle.std.specs.Prelude.{nat_lt, nat_abs, int_le, ◌-ℤ◌, option_and_then}
 use Rattle.std.specs.Option.{unwrap_or}
 use Rattle.std.specs.Bool.{then_some}

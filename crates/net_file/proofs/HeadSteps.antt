@@ -1,30 +1,20 @@
 -- The lines of the head: each is taken in its turn.
-use Rattle.std.proofs.Common.{◌≡◌, refl, sym, ◌∙◌, ap, subst, inl, inr, ℕ, zero, suc, ◌+◌, ◌-◌, ◌<◌, ◌≤◌, ℤ, pos, ◌+ℤ◌, ◌-ℤ◌, Bool, true, false, cond, ◌&&◌, ◌||◌, not, List, [], ◌∷◌, ◌++◌, length, map, take, nat_le, nat_eq, Option, Some, None, Result, Ok, Err, append_assoc, arith}
-use Rattle.std.specs.Prelude.{codes, int_le}
-use Rattle.std.specs.Option.{option_map, option_map_or, is_none}
-use Rattle.std.specs.Fmt.{decimal}
-use Rattle.std.proofs.lemmas.List.{append-nil, map-append, length-append}
-use Rattle.std.proofs.lemmas.Bool.{and_parts, and_from, leb-true, leb-false, not-false, both_ways}
+use Rattle.std.proofs.Common.{◌≡◌, refl, sym, ◌∙◌, ap, subst, ℕ, zero, suc, ◌-◌, ◌<◌, ◌≤◌, Bool, true, false, cond, ◌||◌, not, List, [], ◌∷◌, ◌++◌, length, map, take, nat_le, nat_eq, Option, Some, None, Ok, append_assoc, arith}
+use Rattle.std.specs.Prelude.{codes}
+use Rattle.std.proofs.lemmas.Bool.{and_parts, leb-true}
 use Rattle.eon_model.specs.Grid as grid
 use Rattle.eon_model.specs.Grid.{Units, is_units, is_band, span_of}
 use Rattle.eon_model.specs.Numerals.{is_within}
 use Rattle.eon_model.specs.NetworkFault as model
 use Rattle.eon_model.specs.NetworkFault.{Word, Fields, Net, Band, Guard, K, Services, Journal, last_fields, band_lines, greatest_unit, is_too_low}
-use Rattle.flex_grid.specs.Makes.{band_from, band_with}
-use Rattle.flex_grid.proofs.BandFacts.{is_with, some_with, some_from}
-use Rattle.net_file.specs.declared.fault.Why.{Why}
-use Rattle.net_file.specs.declared.fault.Why.TheVariants as why
-use Rattle.net_file.specs.Told.{why_told}
-use Rattle.net_file.specs.LineWords.{one_number, number_in, band_words, ranged}
-use Rattle.net_file.specs.Steps.{SoFar, Sheet, on_ok, unless_fault, told_by, units_between, parts_of, leaves_room, is_in_reach, touches, if_band, with_part, part_step, has_its_parts, may_come, setup_step, band_step}
-use Rattle.net_file.specs.Drafts.{number_words, part_line_words, limit_words, head_at, rank, lines_of, PartsSoFar, BandSoFar, Sound}
-use Rattle.net_file.proofs.CauseParts.{behind}
+use Rattle.net_file.specs.LineWords.{one_number, number_in}
+use Rattle.net_file.specs.Steps.{SoFar, Sheet, on_ok, told_by, parts_of, has_its_parts, may_come, setup_step}
+use Rattle.net_file.specs.Drafts.{number_words, part_line_words, limit_words, head_at, rank, lines_of, BandSoFar, Sound}
 use Rattle.net_file.proofs.NumberParts.{one, number_reads}
-use Rattle.net_file.proofs.BandLines.{GoodBand, Before, before, least-read, end-told, band-on, band-later}
-use Rattle.net_file.proofs.BandParts.{band_rest, band_reads, is_part_at}
-use Rattle.net_file.proofs.LineLists.{none_yet, parts_with, length_mapped}
+use Rattle.net_file.proofs.BandLines.{band-on, band-later}
+use Rattle.net_file.proofs.LineLists.{none_yet}
 use Rattle.net_file.proofs.RankLaws.{come-far}
-use Rattle.net_file.proofs.StepParts.{Takes, Follows, Grows, nested, line-takes, checked, head-follows, free-many}
+use Rattle.net_file.proofs.StepParts.{Takes, Follows, line-takes, head-follows, free-many}
 
 -- ---- the version
 

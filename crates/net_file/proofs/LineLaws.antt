@@ -4,7 +4,7 @@ use Rattle.std.specs.Prelude.{codes}
 use Rattle.eon_model.specs.NetworkFault.{Word, Fields, Net, Band, Guard, K, Services, Journal, Node, End, field_at, word_spelled, last_word, lines_with, has_form, has_ranges, cause_of}
 use Rattle.eon_model.specs.NetworkFault as model
 use Rattle.net_file.specs.declared.fault.Why.TheVariants as why
-use Rattle.net_file.specs.Steps.{SoFar, Sheet, on_ok, told_by, may_come, has_end, word_step, line_step, setup_step}
+use Rattle.net_file.specs.Steps.{Sheet, on_ok, told_by, may_come, has_end, word_step, line_step, setup_step}
 use Rattle.net_file.specs.Drafts.{rank, lines_of, Sound}
 use Rattle.net_file.proofs.CauseParts.{front, behind, spelling, word-spelling, cause-parts, cause-no_place, cause-no_word}
 use Rattle.net_file.proofs.FrontParts.{form_of, ranges_of}

@@ -1,14 +1,13 @@
 -- Texts of parts by their numbers.
-use Rattle.std.proofs.Common.{◌≡◌, refl, sym, ◌∙◌, ap, subst, inl, inr, ℕ, zero, suc, ◌+◌, ◌<◌, ◌≤◌, true, false, cond, ◌||◌, List, [], ◌∷◌, ◌++◌, length, map, take, get_or, Bor, slice_get, slice_index_or, Result, Ok, Err, ◌⊎◌, nat_eq, nat_lt, append_assoc, zero-add, arith}
+use Rattle.std.proofs.Common.{◌≡◌, refl, sym, ◌∙◌, ap, inl, inr, ℕ, zero, suc, ◌+◌, ◌<◌, ◌≤◌, true, false, cond, ◌||◌, List, [], ◌∷◌, ◌++◌, length, map, slice_get, slice_index_or, ◌⊎◌, nat_eq, nat_lt, append_assoc, zero-add, arith}
 use Rattle.std.specs.Prelude.{codes}
 use Rattle.eon_model.specs.NetworkText.{number_line}
 use Rattle.std.specs.Option.{unwrap_or}
 use Rattle.std.specs.List.{flat_map, list_all}
-use Rattle.std.proofs.lemmas.List.{append-nil, map-append, take_more}
+use Rattle.std.proofs.lemmas.List.{append-nil}
 use Rattle.std.proofs.lemmas.Bool.{and_parts, ltb-true, ne_eqb, eq-eqb, cases_eq, or_from}
 use Rattle.eon_model.specs.Lists.{has_number, numbers_ascend}
 use Rattle.eon_model.proofs.OrderLaws.{AllOf}
-use Rattle.eon_model.specs.Spelling.{spaced, line}
 use Rattle.line_writer.specs.Sent.{Sent, Takes}
 use Rattle.line_writer.specs.Words.{behind}
 use Rattle.line_writer.proofs.TakesLaws.{takes-both, takes-same}

@@ -9,7 +9,7 @@ use Rattle.std.proofs.lemmas.Bool.{and_parts, leb-true, lt-ltb}
 use Rattle.eon_model.specs.Grid.{Band, is_units, parts_ascend, span_of}
 use Rattle.eon_model.specs.Names.{differ}
 use Rattle.eon_model.specs.Formats.{Format}
-use Rattle.eon_model.specs.Spelling.{spaced, line, fields_of}
+use Rattle.eon_model.specs.Spelling.{spaced, fields_of}
 use Rattle.eon_model.specs.NetworkText.{version_of, is_format, IsNetworkTextOf}
 use Rattle.eon_model.specs.NetworkFault.{Word, Fields, Rest, Short, has_ended, is_end, word_spelled, field_at, whole_lines, cause_of, first_fault, network_fault}
 use Rattle.eon_model.proofs.NetworkTextLaws.{setup_words, text_words}

@@ -1,16 +1,14 @@
 -- The lines of a band pass.
-use Rattle.std.proofs.Common.{◌≡◌, refl, sym, ◌∙◌, ap, subst, inl, ℕ, ◌+◌, ◌<◌, ◌≤◌, ◌≤ℤ◌, ℤ, pos, negsuc, ◌+ℤ◌, ◌-ℤ◌, Bool, true, false, cond, ◌&&◌, ◌||◌, not, List, [], ◌∷◌, ◌++◌, length, map, nat_le, nat_eq, arith}
+use Rattle.std.proofs.Common.{◌≡◌, refl, sym, ◌∙◌, ap, subst, ℕ, ◌≤◌, ◌≤ℤ◌, ℤ, pos, negsuc, ◌+ℤ◌, ◌-ℤ◌, Bool, true, false, cond, ◌&&◌, ◌||◌, not, List, [], ◌∷◌, ◌++◌, length, map, nat_le, nat_eq, arith}
 use Rattle.std.specs.Prelude.{codes, int_le}
 use Rattle.std.specs.Option.{option_map_or, unwrap_or}
 use Rattle.std.specs.List.{list_all}
-use Rattle.std.specs.Fmt.{decimal, signed_decimal}
-use Rattle.std.proofs.lemmas.Bool.{and_parts, and_from, or_left, or_right, not_from_true, leb-true, leb-false, le-leb, lt-leb, ne_eqb, both_ways}
+use Rattle.std.proofs.lemmas.Bool.{and_parts, and_from, or_right, not_from_true, leb-true, leb-false, le-leb, lt-leb, ne_eqb, both_ways}
 use Rattle.std.proofs.lemmas.List.{length-append}
 use Rattle.std.proofs.lemmas.Int.{ints}
 use Rattle.eon_model.specs.Grid as grid
 use Rattle.eon_model.specs.Grid.{Units, lies_in, lies_in_band, is_units, parts_ascend, is_band, span_of}
 use Rattle.eon_model.specs.NetworkText.{version_of}
-use Rattle.eon_model.specs.Numerals.{number_value, signed_value}
 use Rattle.eon_model.specs.NetworkFault as fault
 use Rattle.eon_model.specs.NetworkFault.{Band, Fields, lines_with, first_fields, last_fields, has_parts, band_lines, band_floor, least_unit, greatest_unit, units_in_range}
 use Rattle.eon_model.proofs.GridLaws.{int_le-le, le-int_le, lies_in-facts, lies_in_itself}

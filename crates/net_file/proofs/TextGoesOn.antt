@@ -1,5 +1,5 @@
 -- Whole lines that are only too short begin the text of a setup.
-use Rattle.std.proofs.Common.{◌≡◌, refl, sym, ◌∙◌, ap, ◌⊎◌, inl, inr, ℕ, zero, suc, ◌+◌, ◌-◌, ◌<◌, ◌≤◌, ℤ, pos, negsuc, ◌+ℤ◌, ◌-ℤ◌, ◌≤ℤ◌, Bool, true, false, cond, ◌&&◌, List, [], ◌∷◌, ◌++◌, length, map, take, drop, nat_le, nat_lt, Option, Some, None, append_assoc, arith}
+use Rattle.std.proofs.Common.{◌≡◌, refl, sym, ◌∙◌, ap, ◌⊎◌, inl, inr, ℕ, zero, suc, ◌-◌, ◌<◌, ◌≤◌, ℤ, pos, negsuc, ◌+ℤ◌, ◌-ℤ◌, ◌≤ℤ◌, Bool, true, false, cond, ◌&&◌, List, [], ◌∷◌, ◌++◌, length, map, take, drop, nat_le, nat_lt, Option, Some, None, append_assoc, arith}
 use Rattle.std.specs.Prelude.{codes, int_le}
 use Rattle.std.specs.Bool.{then_some}
 use Rattle.std.specs.Option.{option_map}
@@ -22,8 +22,8 @@ use Rattle.eon_model.proofs.BandLaws.{band-parts}
 use Rattle.eon_model.proofs.NetworkTextLaws.{setup_words, text_words}
 use Rattle.flex_grid.proofs.BandFacts.{is_with}
 use Rattle.net_file.specs.TextLaws.{TextsCanGoOn}
-use Rattle.net_file.specs.Steps.{SoFar, Sheet, parts_of, leaves_room, setup_told, has_end}
-use Rattle.net_file.specs.Drafts.{number_words, part_line_words, format_line_words, node_line_words, fibre_line_words, group_line_words, limit_words, net_words, head_at, lines_at, lines_of, rank, PartsSoFar, BandSoFar, InRange, Sound}
+use Rattle.net_file.specs.Steps.{SoFar, Sheet, parts_of, setup_told, has_end}
+use Rattle.net_file.specs.Drafts.{number_words, part_line_words, format_line_words, node_line_words, fibre_line_words, group_line_words, limit_words, net_words, head_at, lines_at, lines_of, rank, PartsSoFar, BandSoFar, Sound}
 use Rattle.net_file.proofs.SplitText.{text_of, spaced-fields, lines-text, text-spaced}
 use Rattle.net_file.proofs.CauseParts.{not_short}
 use Rattle.net_file.proofs.BandLines.{no-parts}

@@ -1,7 +1,7 @@
-use Rattle.std.proofs.Common.{[], ap, length, slice_index_or, arith}
+use Rattle.std.proofs.Common.{length, arith}
 use Rattle.eon_model.specs.NetworkText.{fibre_line}
 use Rattle.eon_model.specs.Network.{fibre_at, no_fibre}
-use Rattle.line_writer.proofs.TakesLaws.{takes-none, takes-same}
+use Rattle.line_writer.proofs.TakesLaws.{takes-none}
 use Rattle.net_file.proofs.PrintNumbers.{below-taken, below-end, below-all}
 use Rattle.net_file.proofs.printing.put_fibres.Goals as goal
 

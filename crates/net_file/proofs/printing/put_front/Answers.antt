@@ -1,6 +1,6 @@
-use Rattle.std.proofs.Common.{ap, ◌∙◌, ◌++◌, codes}
+use Rattle.std.proofs.Common.{ap, ◌∙◌}
 use Rattle.std.specs.List.{flat_map}
-use Rattle.eon_model.specs.NetworkText.{number_line, band_line}
+use Rattle.eon_model.specs.NetworkText.{band_line}
 use Rattle.line_writer.proofs.TakesLaws.{takes-both, takes-same}
 use Rattle.net_file.specs.PrintWords.{front_text}
 use Rattle.net_file.proofs.PrintNumbers.{front-same}

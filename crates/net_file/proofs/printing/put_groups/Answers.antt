@@ -1,7 +1,7 @@
-use Rattle.std.proofs.Common.{[], ap, length, slice_index_or, arith}
+use Rattle.std.proofs.Common.{length, arith}
 use Rattle.eon_model.specs.NetworkText.{group_line}
 use Rattle.net_file.specs.PrintWords.{no_group, group_at}
-use Rattle.line_writer.proofs.TakesLaws.{takes-none, takes-same}
+use Rattle.line_writer.proofs.TakesLaws.{takes-none}
 use Rattle.net_file.proofs.PrintNumbers.{below-taken, below-end, below-all}
 use Rattle.net_file.proofs.printing.put_groups.Goals as goal
 

@@ -1,6 +1,6 @@
-use Rattle.std.proofs.Common.{[], ap, length, slice_index_or, arith}
+use Rattle.std.proofs.Common.{length, arith}
 use Rattle.net_file.specs.PrintWords.{member_text}
-use Rattle.line_writer.proofs.TakesLaws.{takes-none, takes-same}
+use Rattle.line_writer.proofs.TakesLaws.{takes-none}
 use Rattle.net_file.proofs.PrintNumbers.{below-taken, below-end}
 use Rattle.net_file.proofs.PrintGroups.{members-all}
 use Rattle.net_file.proofs.printing.put_members.Goals as goal

@@ -1,4 +1,4 @@
-use Rattle.std.proofs.Common.{[], ap, length, slice_index_or, arith}
+use Rattle.std.proofs.Common.{[], ap, length, arith}
 use Rattle.eon_model.specs.NetworkText.{node_line}
 use Rattle.eon_model.specs.Network.{name_at}
 use Rattle.line_writer.proofs.TakesLaws.{takes-none, takes-same}

@@ -1,4 +1,4 @@
-use Rattle.std.proofs.Common.{[], ap, length, slice_index_or, arith}
+use Rattle.std.proofs.Common.{ap, length, slice_index_or, arith}
 use Rattle.eon_model.specs.NetworkText.{band_line}
 use Rattle.flex_grid.specs.Padded.{blank}
 use Rattle.line_writer.proofs.TakesLaws.{takes-none, takes-same}
