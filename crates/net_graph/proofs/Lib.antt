@@ -9,3 +9,5 @@ pub mod RouteSums
 pub mod FaultLemmas
 pub mod GroupLemmas
 pub mod JoinLemmas
+pub mod GroupTests
+pub mod JoinFacts

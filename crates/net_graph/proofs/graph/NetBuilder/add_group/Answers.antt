@@ -1,16 +1,12 @@
-use Rattle.std.proofs.Common.{◌≡◌, sym, ◌∙◌, ap, inl, inr, ◌+◌, nat_le, [], ◌∷◌, ◌++◌, length, cond, None, arith}
+use Rattle.std.proofs.Common.{◌≡◌, sym, ◌∙◌, ap, inl, inr, ◌+◌, [], ◌∷◌, ◌++◌, length, cond, arith}
 use Rattle.std.specs.Result.{is_ok}
-use Rattle.std.specs.List.{list_any, filter_map}
 use Rattle.std.proofs.lemmas.Result.{err_from_is_err_and}
 use Rattle.eon_model.specs.Names.{ascend}
-use Rattle.eon_model.specs.Network.{Group, number_of}
-use Rattle.eon_model.specs.Lists.{numbers_ascend}
-use Rattle.net_graph.specs.Graph.{group_fault, group_named, with_group, holders}
-use Rattle.net_graph.specs.Rows.{network_of, group_seen, row_names, rows_with}
-use Rattle.net_graph.proofs.GraphParts.{parts_of, length_rows, length_groups, names_of_rows}
-use Rattle.net_graph.proofs.FaultLemmas.{group-accepts}
-use Rattle.net_graph.proofs.GroupLemmas.{numbers_within, numbers_rise}
-use Rattle.net_graph.proofs.JoinLemmas.{kept-with_group, added-group, room_in_rows}
+use Rattle.net_graph.specs.Graph.{group_fault, group_named, with_group}
+use Rattle.net_graph.specs.Rows.{network_of, row_names, rows_with}
+use Rattle.net_graph.proofs.GraphParts.{parts_of, length_rows, names_of_rows}
+use Rattle.net_graph.proofs.JoinFacts.{joins}
+use Rattle.net_graph.proofs.JoinLemmas.{kept-with_group, added-group}
 use Rattle.net_graph.proofs.graph.NetBuilder.add_group.Goals as goal
 use Rattle.net_graph.proofs.graph.NetBuilder.add_group.Goals.{in-Ok, in-Err}
 
@@ -48,124 +44,49 @@ put_group-requires-clause-few_fibres c =
 
 pub put_group-requires-clause-few_groups : goal.put_group-requires-clause-few_groups
 put_group-requires-clause-few_groups c =
-    let s = c.self.inside in
-    let nodes = s.nodes.items in
-    let rows = s.rows.items in
-    let groups = s.groups.items in
-    let g = c.in_ok-group.group in
-    let at_rows = c.deref.ensures.value in
-    let at_groups = c.deref-2.ensures.value in
-    let net = network_of nodes rows groups in
-    let made : group_seen g ≡ group_named net c.args.name c.args.fibres.now =
-    c.in_ok-group.ensures.made
-    ∙ (λ i. group_named (network_of [] (at_rows i) (at_groups i)) c.args.name c.args.fibres.now) in
-    let accepted : group_fault net c.args.name c.args.fibres.now ≡ None =
-    sym (λ i. group_fault (network_of [] (at_rows i) (at_groups i)) c.args.name c.args.fibres.now)
-    ∙ c.in_ok-group.ensures.accepted in
-    let ok = group-accepts net c.args.name c.args.fibres.now accepted in
-    omega (arith, ok.few, length_groups groups)
+    (joins c.self.inside.nodes.items c.self.inside.rows.items c.self.inside.groups.items c.self.invariant c.args.name
+    c.args.fibres.now c.in_ok-group.group _ _ c.deref.ensures.value c.deref-2.ensures.value
+    c.in_ok-group.ensures.made c.in_ok-group.ensures.accepted).few
 
 pub put_group-requires-clause-known : goal.put_group-requires-clause-known
 put_group-requires-clause-known c =
-    let s = c.self.inside in
-    let nodes = s.nodes.items in
-    let rows = s.rows.items in
-    let groups = s.groups.items in
-    let g = c.in_ok-group.group in
-    let at_rows = c.deref.ensures.value in
-    let at_groups = c.deref-2.ensures.value in
-    let net = network_of nodes rows groups in
-    let made : group_seen g ≡ group_named net c.args.name c.args.fibres.now =
-    c.in_ok-group.ensures.made
-    ∙ (λ i. group_named (network_of [] (at_rows i) (at_groups i)) c.args.name c.args.fibres.now) in
-    let accepted : group_fault net c.args.name c.args.fibres.now ≡ None =
-    sym (λ i. group_fault (network_of [] (at_rows i) (at_groups i)) c.args.name c.args.fibres.now)
-    ∙ c.in_ok-group.ensures.accepted in
-    let ok = group-accepts net c.args.name c.args.fibres.now accepted in
-    let numbers : g.fibres.items ≡ filter_map (number_of (row_names rows)) c.args.fibres.now =
-    ap (λ (x : Group). x.fibres) made
-    ∙ ap (λ names. filter_map (number_of names) c.args.fibres.now) (names_of_rows rows) in
-    numbers_within rows c.args.fibres.now g.fibres.items numbers
+    (joins c.self.inside.nodes.items c.self.inside.rows.items c.self.inside.groups.items c.self.invariant c.args.name
+    c.args.fibres.now c.in_ok-group.group _ _ c.deref.ensures.value c.deref-2.ensures.value
+    c.in_ok-group.ensures.made c.in_ok-group.ensures.accepted).known
 
 pub put_group-requires-clause-ascend : goal.put_group-requires-clause-ascend
 put_group-requires-clause-ascend c =
-    let s = c.self.inside in
-    let nodes = s.nodes.items in
-    let rows = s.rows.items in
-    let groups = s.groups.items in
-    let g = c.in_ok-group.group in
-    let at_rows = c.deref.ensures.value in
-    let at_groups = c.deref-2.ensures.value in
-    let net = network_of nodes rows groups in
-    let made : group_seen g ≡ group_named net c.args.name c.args.fibres.now =
-    c.in_ok-group.ensures.made
-    ∙ (λ i. group_named (network_of [] (at_rows i) (at_groups i)) c.args.name c.args.fibres.now) in
-    let accepted : group_fault net c.args.name c.args.fibres.now ≡ None =
-    sym (λ i. group_fault (network_of [] (at_rows i) (at_groups i)) c.args.name c.args.fibres.now)
-    ∙ c.in_ok-group.ensures.accepted in
-    let ok = group-accepts net c.args.name c.args.fibres.now accepted in
-    let numbers : g.fibres.items ≡ filter_map (number_of (row_names rows)) c.args.fibres.now =
-    ap (λ (x : Group). x.fibres) made
-    ∙ ap (λ names. filter_map (number_of names) c.args.fibres.now) (names_of_rows rows) in
-    ap numbers_ascend numbers
-    ∙ numbers_rise (row_names rows) c.args.fibres.now
-    (ap ascend (sym (names_of_rows rows)) ∙ (parts_of net c.self.invariant.graph).fibres_rise) ok.rise
+    (joins c.self.inside.nodes.items c.self.inside.rows.items c.self.inside.groups.items c.self.invariant c.args.name
+    c.args.fibres.now c.in_ok-group.group _ _ c.deref.ensures.value c.deref-2.ensures.value
+    c.in_ok-group.ensures.made c.in_ok-group.ensures.accepted).rise
 
 pub put_group-requires-clause-room : goal.put_group-requires-clause-room
 put_group-requires-clause-room c =
-    let s = c.self.inside in
-    let nodes = s.nodes.items in
-    let rows = s.rows.items in
-    let groups = s.groups.items in
-    let g = c.in_ok-group.group in
-    let at_rows = c.deref.ensures.value in
-    let at_groups = c.deref-2.ensures.value in
-    let net = network_of nodes rows groups in
-    let made : group_seen g ≡ group_named net c.args.name c.args.fibres.now =
-    c.in_ok-group.ensures.made
-    ∙ (λ i. group_named (network_of [] (at_rows i) (at_groups i)) c.args.name c.args.fibres.now) in
-    let accepted : group_fault net c.args.name c.args.fibres.now ≡ None =
-    sym (λ i. group_fault (network_of [] (at_rows i) (at_groups i)) c.args.name c.args.fibres.now)
-    ∙ c.in_ok-group.ensures.accepted in
-    let ok = group-accepts net c.args.name c.args.fibres.now accepted in
-    room_in_rows nodes rows groups g.fibres.items c.self.invariant
-    (ap (λ (x : Group). list_any (λ k. nat_le 8 (holders net.groups k)) x.fibres) made ∙ ok.room)
+    (joins c.self.inside.nodes.items c.self.inside.rows.items c.self.inside.groups.items c.self.invariant c.args.name
+    c.args.fibres.now c.in_ok-group.group _ _ c.deref.ensures.value c.deref-2.ensures.value
+    c.in_ok-group.ensures.made c.in_ok-group.ensures.accepted).room
 
 pub invariant_of-self : goal.invariant_of-self
 invariant_of-self c =
-    let s = c.self.inside in
-    let nodes = s.nodes.items in
-    let rows = s.rows.items in
-    let groups = s.groups.items in
+    let rows = c.self.inside.rows.items in
+    let groups = c.self.inside.groups.items in
     let g = c.in_ok-group.group in
-    let at_rows = c.deref.ensures.value in
-    let at_groups = c.deref-2.ensures.value in
-    let net = network_of nodes rows groups in
-    let made : group_seen g ≡ group_named net c.args.name c.args.fibres.now =
-    c.in_ok-group.ensures.made
-    ∙ (λ i. group_named (network_of [] (at_rows i) (at_groups i)) c.args.name c.args.fibres.now) in
-    let accepted : group_fault net c.args.name c.args.fibres.now ≡ None =
-    sym (λ i. group_fault (network_of [] (at_rows i) (at_groups i)) c.args.name c.args.fibres.now)
-    ∙ c.in_ok-group.ensures.accepted in
-    let ok = group-accepts net c.args.name c.args.fibres.now accepted in
-    kept-with_group nodes rows groups g c.args.name c.args.fibres.now (is_ok c.put_group.result)
-    c.put_group.new.rows.items c.put_group.new.groups.items c.self.invariant made c.in_ok-group.ensures.named
-    accepted c.requires c.put_group.ensures.rows c.put_group.ensures.groups
+    let j = joins c.self.inside.nodes.items rows groups c.self.invariant c.args.name c.args.fibres.now g _ _
+    c.deref.ensures.value c.deref-2.ensures.value c.in_ok-group.ensures.made c.in_ok-group.ensures.accepted in
+    kept-with_group c.self.inside.nodes.items rows groups g c.args.name c.args.fibres.now (is_ok c.put_group.result)
+    c.put_group.new.rows.items c.put_group.new.groups.items c.self.invariant j.made c.in_ok-group.ensures.named
+    j.accepted c.requires c.put_group.ensures.rows c.put_group.ensures.groups
 
 pub returns-clause-added : goal.returns-clause-added
 returns-clause-added c =
-    let s = c.self.inside in
-    let nodes = s.nodes.items in
-    let rows = s.rows.items in
-    let groups = s.groups.items in
+    let nodes = c.self.inside.nodes.items in
+    let rows = c.self.inside.rows.items in
+    let groups = c.self.inside.groups.items in
     let g = c.in_ok-group.group in
-    let at_rows = c.deref.ensures.value in
-    let at_groups = c.deref-2.ensures.value in
-    let net = network_of nodes rows groups in
-    let made : group_seen g ≡ group_named net c.args.name c.args.fibres.now =
-    c.in_ok-group.ensures.made
-    ∙ (λ i. group_named (network_of [] (at_rows i) (at_groups i)) c.args.name c.args.fibres.now) in
-    let grown = with_group net (group_named net c.args.name c.args.fibres.now) in
+    let j = joins c.self.inside.nodes.items rows groups c.self.invariant c.args.name c.args.fibres.now g _ _
+    c.deref.ensures.value c.deref-2.ensures.value c.in_ok-group.ensures.made c.in_ok-group.ensures.accepted in
+    let grown = with_group (network_of nodes rows groups)
+    (group_named (network_of nodes rows groups) c.args.name c.args.fibres.now) in
     elim c.match-put_group.branch [
       | in-Ok w ↦
           let rows_are : c.put_group.new.rows.items
@@ -175,7 +96,7 @@ returns-clause-added c =
           let groups_are : c.put_group.new.groups.items ≡ groups ++ g ∷ [] =
           c.put_group.ensures.groups ∙ (λ i. cond (is_ok (w.in-Ok.is i)) (groups ++ g ∷ []) groups) in
           let added : network_of nodes c.put_group.new.rows.items c.put_group.new.groups.items ≡ grown =
-          added-group nodes rows groups g _ c.put_group.new.rows.items c.put_group.new.groups.items made
+          added-group nodes rows groups g _ c.put_group.new.rows.items c.put_group.new.groups.items j.made
           rows_are groups_are in
           rw w.result-is (added
           ∙ ap (λ n. with_group n (group_named n c.args.name c.args.fibres.now)) c.self.view_is)
