@@ -1,5 +1,6 @@
 //! What is told of an empty list.
-ghost use Rattle.std.specs.Prelude.{IsTrue, IfOk};
+ghost use Rattle.std.specs.Prelude.{◌≡◌, IsTrue, IfOk};
+ghost use Rattle.eon_model.specs.Legal.{Legal};
 ghost use Rattle.eon_model.specs.NetworkText.{is_network, is_setup, is_table};
 
 use crate::totals::stats;
@@ -12,6 +13,7 @@ use net_setup::NetSetup;
 use reach_table::format::Format;
 use reach_table::table::Table;
 use std::alloc::Global;
+use std::process::Abort;
 use std::test::Fail;
 
 const REPORT: &str = concat!(
@@ -70,10 +72,11 @@ fn small_setup(alloc: Global) -> Result<NetSetup, Fail>
     })
 }
 
-#[test]
-fn an_empty_list_is_told(rt: HostRuntime) -> Result<(), Fail> {
-    let setup = small_setup(rt.alloc())?;
-    let services = Services::new(rt.alloc());
+// Nothing is told of a state without services.
+fn check(rt: &impl Abort, alloc: Global, setup: &NetSetup, services: &Services) -> Result<(), Fail>
+    requires setup { IsTrue (is_setup setup.now) }
+    requires legal { Legal setup.now services.now.list }
+{
     let totals = Stats {
         services: 0,
         protected: 0,
@@ -85,14 +88,21 @@ fn an_empty_list_is_told(rt: HostRuntime) -> Result<(), Fail> {
     if setup.net.fibres() < 1 {
         return Err(Fail::from("no fibre"));
     }
-    assert_eq!(rt; stats(&setup, &services), totals);
+    assert_eq!(rt; stats(setup, services), totals);
     assert_eq!(rt;
-        map_text(rt.alloc(), &setup, &services, 0)?.bytes(),
+        map_text(alloc, setup, services, 0)?.bytes(),
         b"map ab 0\n".as_slice()
     );
     assert_eq!(rt;
-        report_text(rt.alloc(), &setup, &services)?.bytes(),
+        report_text(alloc, setup, services)?.bytes(),
         REPORT.as_bytes()
     );
     Ok(())
+}
+
+#[test]
+fn an_empty_list_is_told(rt: HostRuntime) -> Result<(), Fail> {
+    let setup = small_setup(rt.alloc())?;
+    let services = Services::new(rt.alloc());
+    check(&rt, rt.alloc(), &setup, &services)
 }

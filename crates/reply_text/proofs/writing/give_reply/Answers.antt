@@ -1,4 +1,3 @@
-use Rattle.std.proofs.Common.{◌∙◌}
 use Rattle.line_writer.proofs.TakesLaws.{sink-ends}
 use Rattle.reply_text.proofs.writing.give_reply.Goals as goal
 
