@@ -36,7 +36,7 @@ fn standard_output_takes_a_piece(rt: HostRuntime) -> Result<(), Fail> {
 }
 
 /// Whether the pieces go through, the second of them behind a failure, until the sink is full.
-fn goes_on_behind_a_failure(sink: &mut MemSink, room: Vec<u8>) -> bool {
+fn goes_on_behind_a_failure(sink: &mut MemSink, room: &mut Vec<u8>) -> bool {
     let mut held: Buffered<'_, MemSink, Brand> = Buffered::new(sink, room);
     let first = write_all(&mut held, b"abc").is_ok() && write_all(&mut held, b"defgh").is_ok();
     let failed = held.flush().is_err();
@@ -48,8 +48,8 @@ fn goes_on_behind_a_failure(sink: &mut MemSink, room: Vec<u8>) -> bool {
 fn what_was_not_taken_stays_held(rt: HostRuntime) -> Result<(), Fail> {
     let alloc = rt.alloc();
     let mut sink = MemSink::new(alloc, 20, 2, [2].to_vec(alloc)?)?;
-    let room = Vec::with_capacity(alloc, 8)?;
-    assert!(rt; goes_on_behind_a_failure(&mut sink, room));
+    let mut room = Vec::with_capacity(alloc, 8)?;
+    assert!(rt; goes_on_behind_a_failure(&mut sink, &mut room));
     assert_eq!(rt; sink.given(), b"abcdefghlonger than ".as_slice());
     Ok(())
 }
