@@ -3,14 +3,17 @@ use Rattle.std.proofs.Common.{◌≡◌, refl, sym, ◌∙◌, ap, subst, ℕ, z
 use Rattle.std.specs.Prelude.{is_some, nat_le}
 use Rattle.std.specs.Option.{option_map, option_or}
 use Rattle.std.proofs.lemmas.Bool.{not-false, leb-false, eqb-true, false_from_ne_true}
-use Rattle.eon_model.specs.Grid.{Units}
+use Rattle.eon_model.specs.declared.Class.{Class}
+use Rattle.eon_model.specs.Grid.{Band}
 use Rattle.eon_model.specs.Names.{Name}
 use Rattle.eon_model.specs.Services.{Leg, Service, State, service_of}
 use Rattle.eon_model.specs.Legal.{Setup, Legal}
 use Rattle.eon_model.specs.NetworkText.{is_setup}
 use Rattle.eon_model.specs.Candidates.{Candidate}
 use Rattle.eon_model.specs.FirstFit.{Placement, leg_placed, first_placement}
-use Rattle.eon_model.specs.Commands.{Demand}
+use Rattle.eon_model.specs.Commands.{Demand, Command}
+use Rattle.eon_model.specs.CommandText.{is_command}
+use Rattle.eon_model.specs.EventText.{is_event}
 use Rattle.eon_model.specs.Replies.{Reply}
 use Rattle.eon_model.specs.Events as changes
 use Rattle.eon_model.specs.Step.{Outcome, Say, Change, or_else, ◌when◌, or_blocked, is_node, unknown_in, new_service, enters, node_numbered, admit_candidates, admit}
@@ -18,23 +21,17 @@ use Rattle.eon_model.proofs.FindLaws.{find-none}
 use Rattle.eon_model.proofs.FollowLaws.{number_in}
 use Rattle.eon_model.proofs.ClashLaws.{no-some, none_found}
 use Rattle.eon_model.proofs.ChangeLaws.{when-none, last_fits, first_leg-IsFirst}
+use Rattle.eon_model.proofs.EventRangeLaws.{outcome-is_event}
 use Rattle.eon_model.proofs.ToldLaws.{service-told}
-use Rattle.plan_report.proofs.SetupFacts.{setup-facts}
+use Rattle.eon_model.proofs.SetupFacts.{setup-facts}
 use Rattle.admission.specs.FirstClear.{first_clear}
 use Rattle.admission.specs.Laws.{FirstForNewService}
 use Rattle.admission.specs.Told.{answer_for, placement_at, IsPlaceOn}
 use Rattle.admission.specs.declared.placing.Found.{Found}
 use Rattle.admission.specs.declared.placing.Admit.TheVariants as said
-use Rattle.reply_text.specs.Tellable.{can_tell}
-use Rattle.plan_core.specs.declared.change.Change.TheVariants as change
-use Rattle.plan_core.specs.declared.change.Outcome.{Outcome as CodeOutcome}
-use Rattle.plan_core.specs.declared.change.Outcome.TheVariants as outcome
-use Rattle.plan_core.specs.Told.{event_told}
-use Rattle.plan_core.specs.Kept.{event_kept, MayEnter, IsReady}
 use Rattle.plan_core.specs.Placing.{refusal}
-use Rattle.plan_core.specs.Admitting.{tried, IsOnFirst, EntersOn}
-use Rattle.plan_core.proofs.PlaceSteps.{first-cause, past-cause, kept-told, or_else-or, or-none}
-use Rattle.plan_core.proofs.PlaceReady.{numbered-last, Plain, plain-map, plain-when}
+use Rattle.plan_core.specs.Admitting.{tried, IsOnFirst}
+use Rattle.plan_core.proofs.PlaceSteps.{first-cause, past-cause, or_else-or, or-none}
 
 -- ---- what was found
 
@@ -76,21 +73,21 @@ module _ (setup : Setup) (d : Demand) (pairs : List Candidate) (found : Option P
       (λ l. Change (enters setup.network d l) (Reply.Admitted d.name)))
       ∙ past-cause (Reply.NoRoute when nat_eq (length pairs) 0) _ (some-route (length pairs) b.0)
 
-  pub tried-leg : (list : State) (band b : Units) (ps : List Candidate) (f : Found) (c : Candidate) (leg : Leg) →
-      b ≡ band → ps ≡ pairs → IsPlaceOn (first_clear list b ps None) ps f → slice_get pairs f.pair ≡ Some c →
-      leg ≡ leg_placed (placement_at c f) →
-      option_map leg_placed (first_clear list band pairs None) ≡ Some leg
-  tried-leg list band b ps f c leg bd same on at is =
-      (λ i. option_map leg_placed (first_clear list (sym bd i) (sym same i) None))
+  pub tried-leg : (list : State) (band b : Band) (class : Class) (ps : List Candidate) (f : Found) (c : Candidate)
+      (leg : Leg) → b ≡ band → class ≡ d.class → ps ≡ pairs → IsPlaceOn (first_clear list b class ps None) ps f →
+      slice_get pairs f.pair ≡ Some c → leg ≡ leg_placed (placement_at c f) →
+      option_map leg_placed (first_clear list band d.class pairs None) ≡ Some leg
+  tried-leg list band b class ps f c leg bd of_class same on at is =
+      (λ i. option_map leg_placed (first_clear list (sym bd i) (sym of_class i) (sym same i) None))
       ∙ ap (option_map leg_placed) (on.is_first c (ap (λ (xs : List Candidate). slice_get xs f.pair) same ∙ at))
       ∙ ap Some (sym is)
 
-  pub tried-enters : (f : Found) (leg : Leg) (owner : Name) (s : Service) →
-      answer_for (length pairs) found ≡ said.Placed f → option_map leg_placed found ≡ Some leg → owner ≡ d.name →
+  pub tried-enters : (f : Found) (leg : Leg) (s : Service) →
+      answer_for (length pairs) found ≡ said.Placed f → option_map leg_placed found ≡ Some leg →
       s ≡ new_service setup.network d leg →
-      Change (event_told (event_kept (change.Enter s))) (Reply.Admitted owner) ≡ tried setup d pairs found
-  tried-enters f leg owner s h first own is =
-      (λ i. Change (changes.Event.Enter ((kept-told s ∙ ap changes.enter_text_of is) i)) (Reply.Admitted (own i)))
+      Change (changes.Event.Enter (changes.enter_text_of s)) (Reply.Admitted d.name) ≡ tried setup d pairs found
+  tried-enters f leg s h first is =
+      ap (λ (x : Service). Change (changes.Event.Enter (changes.enter_text_of x)) (Reply.Admitted d.name)) is
       ∙ sym (ap (λ l. or_blocked (length pairs) l (λ l. Change (enters setup.network d l) (Reply.Admitted d.name))) first)
       ∙ past-cause (Reply.NoRoute when nat_eq (length pairs) 0) _ (some-route (length pairs) (placed-pairs (length pairs) f found h))
 
@@ -138,7 +135,7 @@ module _ (setup : Setup) (state : State) (d : Demand) where
   admit-refused r h = first-cause (refusal setup state d []) r _ h ∙ admit-by
 
   pub first-found : FirstForNewService → is_setup setup ≡ true → Legal setup state → refusal setup state d [] ≡ None →
-      first_clear state setup.band (admit_candidates setup d) None
+      first_clear state setup.band d.class (admit_candidates setup d) None
       ≡ first_placement setup (admit_candidates setup d) (λ l. state ++ new_service setup.network d l ∷ [])
   first-found law ok legal none =
       let may = may-ask setup state d none in
@@ -146,53 +143,26 @@ module _ (setup : Setup) (state : State) (d : Demand) where
 
   pub admit-tried : (o : Outcome) (pairs : List Candidate) → FirstForNewService → is_setup setup ≡ true →
       Legal setup state → refusal setup state d [] ≡ None → pairs ≡ admit_candidates setup d →
-      o ≡ tried setup d pairs (first_clear state setup.band pairs None) → o ≡ admit setup state d
+      o ≡ tried setup d pairs (first_clear state setup.band d.class pairs None) → o ≡ admit setup state d
   admit-tried o pairs law ok legal none is h =
-      h ∙ ap (λ (ps : List Candidate). tried setup d ps (first_clear state setup.band ps None)) is
+      h ∙ ap (λ (ps : List Candidate). tried setup d ps (first_clear state setup.band d.class ps None)) is
       ∙ ap (tried setup d (admit_candidates setup d)) (first-found law ok legal none)
       ∙ past-cause (refusal setup state d []) _ none ∙ admit-by
 
-  may-enter-on : (s : Service) (found : Option Placement) → is_setup setup ≡ true → service_of state d.name ≡ None →
-      found ≡ first_placement setup (admit_candidates setup d) (λ l. state ++ new_service setup.network d l ∷ []) →
-      IsOnFirst setup d found s → MayEnter setup state s
-  may-enter-on s found ok fresh first on =
-      let one = first_leg-IsFirst setup (admit_candidates setup d) (λ l. state ++ new_service setup.network d l ∷ []) on.leg
-      (sym (ap (option_map leg_placed) first) ∙ on.first_leg) in
-      let after = subst (λ (x : Service). Legal setup (state ++ x ∷ [])) (sym on.is) one.legal in
-      record {
-        numbered = numbered-last setup state s ok after;
-        fresh = ap (λ (x : Service). service_of state x.name) on.is ∙ fresh;
-        same = ap (changes.service_told setup.network) (kept-told s)
-            ∙ service-told setup s (last_fits setup state s after)
-            (ap (λ (x : Service). x.leg.to) on.is ∙ one.still) (ap (λ (x : Service). x.next) on.is);
-        legal = after;
-      }
-
-  pub admit-ready : (o : CodeOutcome) (pairs : List Candidate) → FirstForNewService → is_setup setup ≡ true →
+  -- the service that enters is what its event tells
+  pub admit-told : (s : Service) (pairs : List Candidate) → FirstForNewService → is_setup setup ≡ true →
       Legal setup state → refusal setup state d [] ≡ None → pairs ≡ admit_candidates setup d →
-      EntersOn o setup d (first_clear state setup.band pairs None) → IsReady setup state o
-  admit-ready (outcome.Say r) pairs law ok legal none is enters = tt
-  admit-ready (outcome.Make (change.Enter s) r) pairs law ok legal none is enters =
-      may-enter-on s (first_clear state setup.band pairs None) ok (may-ask setup state d none).fresh
-      (ap (λ (ps : List Candidate). first_clear state setup.band ps None) is ∙ first-found law ok legal none) enters
-  admit-ready (outcome.Make (change.Leave name) r) pairs law ok legal none is enters = absurd enters
+      IsOnFirst setup d (first_clear state setup.band d.class pairs None) s →
+      changes.service_told setup.network (changes.enter_text_of s) ≡ s
+  admit-told s pairs law ok legal none is on =
+      let found = ap (λ (ps : List Candidate). first_clear state setup.band d.class ps None) is ∙ first-found law ok legal none in
+      let one = first_leg-IsFirst setup (admit_candidates setup d) (λ l. state ++ new_service setup.network d l ∷ []) on.leg
+      (sym (ap (option_map leg_placed) found) ∙ on.first_leg) in
+      let after = subst (λ (x : Service). Legal setup (state ++ x ∷ [])) (sym on.is) one.legal in
+      service-told setup s (last_fits setup state s after)
+      (ap (λ (x : Service). x.leg.to) on.is ∙ one.still) (ap (λ (x : Service). x.next) on.is)
 
--- ---- the reply of a refusal
-
-plain-or : (setup : Setup) (state : State) (a b : Option Reply) → Plain setup state a → Plain setup state b →
-    Plain setup state (option_or a b)
-plain-or setup state None b f g r e = g r e
-plain-or setup state (Some q) b f g r e = f r e
-
-pub refused-tells : (setup : Setup) (state : State) (d : Demand) (r : Reply) → refusal setup state d [] ≡ Some r →
-    can_tell setup state r ≡ true
-refused-tells setup state d r h =
-    let net = setup.network in
-    let node = unknown_in (is_node net) (d.src ∷ d.dst ∷ []) in
-    let taken = Reply.Taken d.name when is_some (service_of state d.name) in
-    let full = Reply.FullServices when nat_le setup.services (length state) in
-    plain-or setup state node (option_or taken full)
-    (plain-map setup state Reply.Unknown (find (λ name. not (is_node net name)) (d.src ∷ d.dst ∷ [])) (λ x. refl))
-    (plain-or setup state taken full
-    (plain-when setup state (Reply.Taken d.name) (is_some (service_of state d.name)) refl)
-    (plain-when setup state Reply.FullServices (nat_le setup.services (length state)) refl)) r h
+  -- its event is in range
+  pub admit-is_event : (e : changes.Event) (r : Reply) → is_setup setup ≡ true → Legal setup state →
+      is_command (Command.Admit d) ≡ true → Change e r ≡ admit setup state d → is_event e ≡ true
+  admit-is_event e r ok legal right h = outcome-is_event setup state (Command.Admit d) e r ok legal right (sym h)

@@ -7,7 +7,7 @@ use Rattle.std.specs.Cmp.{nat_eq_equiv}
 use Rattle.std.proofs.lemmas.Bool.{both_ways}
 use Rattle.eon_model.specs.declared.Part.{Part}
 use Rattle.eon_model.specs.declared.Part.TheVariants.{Work, Backup}
-use Rattle.eon_model.specs.Grid.{Slot, Units, units_of, lies_in, is_slot}
+use Rattle.eon_model.specs.Grid.{Slot, Units, Band, units_of, lies_in_band, is_band, is_slot}
 use Rattle.eon_model.specs.Network.{Network}
 use Rattle.eon_model.specs.Route.{Route, route_of, walks}
 use Rattle.eon_model.specs.Legal.{Setup, need_of, is_exactly}
@@ -17,6 +17,7 @@ use Rattle.eon_model.specs.CommandText.{is_rate}
 use Rattle.eon_model.specs.Replies.{Reply}
 use Rattle.eon_model.specs.Step.{AskedPath, asked, path_asked, fault_in, node_numbered, fibres_numbered, walks_between, reaches_end, is_in_band}
 use Rattle.eon_model.proofs.WidthLaws.{need-positive}
+use Rattle.admission.proofs.SpanLaws.{slot_in}
 use Rattle.flex_grid.specs.Makes.{slot_of}
 use Rattle.net_graph.specs.Walks.{route_from}
 use Rattle.command_text.specs.declared.command.BackWords.{BackWords}
@@ -129,15 +130,33 @@ some-then : (b : Bool) (s : Slot) → then_some b s ≡ cond b (Some s) None
 some-then true s = refl
 some-then false s = refl
 
-pub slot-made : (band u : Units) (n : ℤ) (m : ℕ) (slot : Slot) (b : Bool) (r : Option Slot) →
-    slot_of n m ≡ Some slot → u ≡ units_of slot → b ≡ lies_in band u → r ≡ then_some b slot →
+pub slot-made : (band : Band) (u : Units) (n : ℤ) (m : ℕ) (slot : Slot) (b : Bool) (r : Option Slot) →
+    slot_of n m ≡ Some slot → u ≡ units_of slot → b ≡ lies_in_band band u → r ≡ then_some b slot →
     r ≡ slot_in_band band n m
 slot-made band u n m slot b r made is lies e =
     let s : Slot = record { n = n; m = m } in
     let same : s ≡ slot = made-by (is_slot s) s slot made in
     e ∙ some-then b slot
-    ∙ (λ i. cond (lies i) (Some slot) None) ∙ (λ i. cond (lies_in band (is i)) (Some slot) None)
-    ∙ sym (ap (λ (v : Slot). cond (lies_in band (units_of v)) (Some v) None) same)
+    ∙ (λ i. cond (lies i) (Some slot) None) ∙ (λ i. cond (lies_in_band band (is i)) (Some slot) None)
+    ∙ sym (ap (λ (v : Slot). cond (lies_in_band band (units_of v)) (Some v) None) same)
+
+none-by : (b : Bool) (s : Slot) → cond b (Some s) None ≡ None → b ≡ false
+none-by true s h = cc
+none-by false s h = refl
+
+-- what is no slot of the grid does not lie in the band
+pub slot-none : (band : Band) (n : ℤ) (m : ℕ) → is_band band ≡ true → 1 ≤ m → slot_of n m ≡ None →
+    None ≡ slot_in_band band n m
+slot-none band n m ok wide none =
+    let s : Slot = record { n = n; m = m } in
+    sym (ap (λ b. cond b (Some s) None) (out (lies_in_band band (units_of s)) refl))
+  where
+    out : (b : Bool) → lies_in_band band (units_of (record { n = n; m = m })) ≡ b →
+        lies_in_band band (units_of (record { n = n; m = m })) ≡ false
+    out true e = absurd (both_ways (is_slot (record { n = n; m = m }))
+        (none-by (is_slot (record { n = n; m = m })) (record { n = n; m = m }) none)
+        (slot_in band (record { n = n; m = m }) ok wide e))
+    out false e = e
 
 some-cond : (a x : Bool) (s : Slot) → a ≡ true → is_some (cond (a && x) (Some s) None) ≡ x
 some-cond true true s h = refl

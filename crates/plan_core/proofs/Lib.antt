@@ -1,4 +1,5 @@
-pub mod KeptLaws
+pub mod WaitingLaws
+pub mod EventLaws
 pub mod NameSteps
 pub mod FaultSteps
 pub mod SharedSteps
@@ -7,4 +8,4 @@ pub mod PlaceReady
 pub mod ListingLaws
 pub mod AdmitSteps
 pub mod ShownLaws
-pub mod ToldLaws
+pub mod ReplyLaws

@@ -4,13 +4,14 @@ use Rattle.std.specs.Prelude.{IfSome, IfOk, Result, Ok, Err, is_some, nat_le}
 use Rattle.std.specs.Option.{option_map, option_or, option_to_list}
 use Rattle.std.specs.List.{flat_map}
 use Rattle.std.proofs.lemmas.Bool.{or_cases, eqb-true, false≢true}
+use Rattle.eon_model.specs.declared.Class.{Class}
 use Rattle.eon_model.specs.declared.Part.{Part}
 use Rattle.eon_model.specs.declared.Part.TheVariants.{Work, Backup}
 use Rattle.eon_model.specs.Lists.{has_number}
 use Rattle.eon_model.specs.Names.{Name}
 use Rattle.eon_model.specs.Sets.{has_member}
 use Rattle.eon_model.specs.Network.{Network, Group, AreFibres, groups_with, risks_of_fibre}
-use Rattle.eon_model.specs.Services.{Path, Leg, Service, State, service_of}
+use Rattle.eon_model.specs.Services.{Path, Leg, Service, State, service_of, owned}
 use Rattle.eon_model.specs.Legal.{Setup}
 use Rattle.eon_model.specs.NetworkText.{is_setup}
 use Rattle.eon_model.specs.Commands.{Demand, PathWords}
@@ -23,12 +24,9 @@ use Rattle.eon_model.proofs.RouteLaws.{walks-IsListed}
 use Rattle.eon_model.proofs.SetLists.{has-set_of}
 use Rattle.eon_model.proofs.SetupLaws.{setup-EndsAreNodes}
 use Rattle.plan_core.specs.declared.demand.AskedPaths.{AskedPaths}
-use Rattle.plan_core.specs.declared.change.Change.TheVariants as change
 use Rattle.reply_text.specs.declared.reply.Reply as code
 use Rattle.reply_text.specs.Replied.{reply_told}
 use Rattle.std.specs.Result.{result_err}
-use Rattle.plan_core.specs.Told.{path_told, enter_told, event_told}
-use Rattle.plan_core.specs.Kept.{path_kept, enter_kept, event_kept}
 use Rattle.plan_core.specs.Placing.{refusal, fibres_written, paths_asked, path_fault, reach_fault, risk_fault, band_fault, fault_of, placed_on}
 
 -- ---- a first cause
@@ -72,53 +70,36 @@ all-pass reply test w None h = ((pass-by reply (test w) w None h).0, tt)
 all-pass reply test w (Some b) h =
     let first = pass-by reply (test w) w _ h in (first.0, (pass-by reply (test b) b None first.1).0)
 
--- ---- the service as its event tells it
-
-back-kept : (b : Option Path) → option_map path_told (option_map path_kept b) ≡ option_map changes.path_text_of b
-back-kept None = refl
-back-kept (Some p) = refl
-
-pub kept-told : (s : Service) → enter_told (enter_kept s) ≡ changes.enter_text_of s
-kept-told s = λ i. record {
-  name = s.name;
-  src = s.src;
-  dst = s.dst;
-  rate = s.rate;
-  class = s.class;
-  leg = record { work = changes.path_text_of s.leg.work; back = back-kept s.leg.back i };
-}
-
 -- ---- where the paths are routes
 
 module _ (setup : Setup) (state : State) (d : Demand) (p : AskedPaths) where
   pub placed-fault : (r : Reply) → fault_of setup d p ≡ Some r → Say r ≡ placed_on setup state d p
   placed-fault r h = first-cause (fault_of setup d p) r _ h
 
-  of_clash : (leg : Leg) (owner : Name) → leg ≡ asked_leg setup d p.work p.back → owner ≡ d.name →
-      first_clash state (record { owner = owner; leg = leg })
-      ≡ first_clash state (record { owner = d.name; leg = asked_leg setup d p.work p.back })
-  of_clash leg owner is own = λ i. first_clash state (record { owner = own i; leg = is i })
+  of_clash : (leg : Leg) (owner : Name) (class : Class) → leg ≡ asked_leg setup d p.work p.back → owner ≡ d.name →
+      class ≡ d.class → first_clash state (owned owner class leg)
+      ≡ first_clash state (owned d.name d.class (asked_leg setup d p.work p.back))
+  of_clash leg owner class is own of_class = λ i. first_clash state (owned (own i) (of_class i) (is i))
 
-  pub placed-clash : (leg : Leg) (owner name : Name) → fault_of setup d p ≡ None →
-      leg ≡ asked_leg setup d p.work p.back → owner ≡ d.name →
-      Some name ≡ first_clash state (record { owner = owner; leg = leg }) →
-      Say (Reply.Clash name) ≡ placed_on setup state d p
-  placed-clash leg owner name none is own found =
-      first-cause (clash state d.name (asked_leg setup d p.work p.back)) (Reply.Clash name)
+  pub placed-clash : (leg : Leg) (owner name : Name) (class : Class) → fault_of setup d p ≡ None →
+      leg ≡ asked_leg setup d p.work p.back → owner ≡ d.name → class ≡ d.class →
+      Some name ≡ first_clash state (owned owner class leg) → Say (Reply.Clash name) ≡ placed_on setup state d p
+  placed-clash leg owner name class none is own of_class found =
+      first-cause (clash state d.name d.class (asked_leg setup d p.work p.back)) (Reply.Clash name)
       (Change (enters setup.network d (asked_leg setup d p.work p.back)) (Reply.Placed d.name))
-      (ap (option_map Reply.Clash) (sym (found ∙ of_clash leg owner is own)))
+      (ap (option_map Reply.Clash) (sym (found ∙ of_clash leg owner class is own of_class)))
       ∙ past-cause (fault_of setup d p) _ none
 
-  pub placed-enters : (leg : Leg) (owner : Name) (s : Service) → fault_of setup d p ≡ None →
-      leg ≡ asked_leg setup d p.work p.back → owner ≡ d.name →
-      None ≡ first_clash state (record { owner = owner; leg = leg }) → s ≡ new_service setup.network d leg →
-      Change (event_told (event_kept (change.Enter s))) (Reply.Placed owner) ≡ placed_on setup state d p
-  placed-enters leg owner s none is own quiet made =
-      (λ i. Change (changes.Event.Enter ((kept-told s
-      ∙ ap changes.enter_text_of (made ∙ ap (λ l. new_service setup.network d l) is)) i)) (Reply.Placed (own i)))
-      ∙ past-cause (clash state d.name (asked_leg setup d p.work p.back))
+  pub placed-enters : (leg : Leg) (owner : Name) (class : Class) (s : Service) → fault_of setup d p ≡ None →
+      leg ≡ asked_leg setup d p.work p.back → owner ≡ d.name → class ≡ d.class →
+      None ≡ first_clash state (owned owner class leg) → s ≡ new_service setup.network d leg →
+      Change (changes.Event.Enter (changes.enter_text_of s)) (Reply.Placed d.name) ≡ placed_on setup state d p
+  placed-enters leg owner class s none is own of_class quiet made =
+      ap (λ (x : Service). Change (changes.Event.Enter (changes.enter_text_of x)) (Reply.Placed d.name))
+      (made ∙ ap (λ l. new_service setup.network d l) is)
+      ∙ past-cause (clash state d.name d.class (asked_leg setup d p.work p.back))
       (Change (enters setup.network d (asked_leg setup d p.work p.back)) (Reply.Placed d.name))
-      (ap (option_map Reply.Clash) (sym (quiet ∙ of_clash leg owner is own)))
+      (ap (option_map Reply.Clash) (sym (quiet ∙ of_clash leg owner class is own of_class)))
       ∙ past-cause (fault_of setup d p) _ none
 
 -- ---- all of it
@@ -133,7 +114,7 @@ module _ (setup : Setup) (state : State) (d : Demand) (w : PathWords) (b : Optio
   paths-by =
       let p = paths_asked setup.network w b in
       let leg = asked_leg setup d p.work p.back in
-      let last = or_else (clash state d.name leg) (Change (enters setup.network d leg) (Reply.Placed d.name)) in
+      let last = or_else (clash state d.name d.class leg) (Change (enters setup.network d leg) (Reply.Placed d.name)) in
       ap (or_else (path_fault setup.network d p))
       (or_else-or (reach_fault setup d p) (option_or (risk_fault setup.network p) (band_fault setup d p)) last
       ∙ ap (or_else (reach_fault setup d p)) (or_else-or (risk_fault setup.network p) (band_fault setup d p) last))

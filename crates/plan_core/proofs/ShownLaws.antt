@@ -1,7 +1,6 @@
 -- The first routes within reach can be shown: their fibres are the network's, and a format reaches them.
 use Rattle.std.proofs.Common.{◌≡◌, refl, sym, ◌∙◌, ap, subst, inl, inr, ℕ, zero, suc, ◌≤◌, ◌<◌, max, Bool, true, false, not, cond, List, [], ◌∷◌, length, filter, find, fold, take, Some, None, arith}
-use Rattle.std.specs.Prelude.{nat_le, nat_lt, is_some, IfOk, Result, Ok, Err}
-use Rattle.std.specs.declared.alloc.AllocError.{AllocError}
+use Rattle.std.specs.Prelude.{nat_le, nat_lt, is_some}
 use Rattle.std.specs.List.{list_all, list_any, AllByRecursion}
 use Rattle.std.proofs.lemmas.Bool.{cases_Bool, and_parts, and_from, both_ways, not-false, leb-true, leb-false, le-leb, lt-ltb}
 use Rattle.eon_model.specs.Formats.{Format, reaching, format_for}
@@ -25,7 +24,7 @@ use Rattle.eon_model.specs.Replies.{Reply}
 use Rattle.eon_model.specs.Step.{Say, or_else, is_node, node_numbered, routes_shown, routes}
 use Rattle.eon_model.proofs.FindLaws.{find-none}
 use Rattle.eon_model.proofs.FollowLaws.{number_in}
-use Rattle.plan_report.proofs.SetupFacts.{setup-facts}
+use Rattle.eon_model.proofs.SetupFacts.{setup-facts}
 use Rattle.pair_list.proofs.BanLaws.{routes-alike, avoided-none}
 use Rattle.reply_text.specs.Tellable.{can_show}
 
@@ -213,13 +212,9 @@ routes-known setup s t rs none is =
     (Say (Reply.Routes (routes_shown setup (node_numbered setup.network s) (node_numbered setup.network t))))) none
 
 -- what was searched are the routes that are shown
-pub shown-by : (setup : Setup) (net : Network) (s t k km : ℕ) (banned : NumberSet) (r : Result (List Route) AllocError) →
-    net ≡ setup.network → banned ≡ empty → k ≡ setup.k → km ≡ max_reach setup.formats →
-    IfOk r (λ rs. rs ≡ first_routes net s t (has_member banned) k km) → IfOk r (λ rs. rs ≡ routes_shown setup s t)
-shown-by setup net s t k km banned (Err e) a b c d h = tt
-shown-by setup net s t k km banned (Ok rs) a b c d h =
-    h ∙ ap (λ v. first_routes v s t (has_member banned) k km) a
-    ∙ ap (λ v. first_routes setup.network s t (has_member v) k km) b
-    ∙ ap (λ v. first_routes setup.network s t (has_member empty) v km) c
-    ∙ ap (λ v. first_routes setup.network s t (has_member empty) setup.k v) d
+pub shown-found : (setup : Setup) (s t : ℕ) (banned : NumberSet) (rs : List Route) →
+    rs ≡ first_routes setup.network s t (has_member banned) setup.k (max_reach setup.formats) → banned ≡ empty →
+    rs ≡ routes_shown setup s t
+shown-found setup s t banned rs h is =
+    h ∙ ap (λ (b : NumberSet). first_routes setup.network s t (has_member b) setup.k (max_reach setup.formats)) is
     ∙ none-banned setup.network s t setup.k (max_reach setup.formats)

@@ -9,9 +9,6 @@ use Rattle.eon_model.specs.Commands.{Demand}
 use Rattle.eon_model.specs.Replies.{Reply}
 use Rattle.eon_model.specs.Step as step
 use Rattle.eon_model.specs.Step.{Change, ◌when◌, or_else, or_blocked, new_service, enters}
-use Rattle.plan_core.specs.declared.change.Change.TheVariants as change
-use Rattle.plan_core.specs.declared.change.Outcome.{Outcome}
-use Rattle.plan_core.specs.declared.change.Outcome.TheVariants as outcome
 
 -- what the candidates come to, where this is the first placement that fits
 abbrev pub tried : Setup → Demand → List Candidate → Option Placement → step.Outcome
@@ -25,9 +22,3 @@ pub record IsOnFirst (setup : Setup) (d : Demand) (first : Option Placement) (s 
   pub leg : Leg
   pub first_leg : option_map leg_placed first ≡ Some leg
   pub is : s ≡ new_service setup.network d leg
-
--- where something changes, the service of the demand enters on the leg of this placement
-abbrev pub EntersOn : Outcome → Setup → Demand → Option Placement → Type 0
-EntersOn (outcome.Say reply) setup d first = Unit {0}
-EntersOn (outcome.Make (change.Enter service) reply) setup d first = IsOnFirst setup d first service
-EntersOn (outcome.Make (change.Leave name) reply) setup d first = ⊥

@@ -1,6 +1,6 @@
 pub mod Built
 pub mod Told
-pub mod Kept
+pub mod Waiting
 pub mod Seen
 pub mod AskedCodes
 pub mod Placing

@@ -1,5 +1,5 @@
 -- The parts of the answer to `place`.
-use Rattle.std.specs.Prelude.{◌≡◌, ℕ, ℤ, nat_le, ◌&&◌, not, List, ◌∷◌, ◌++◌, [], length, map, filter, Option, Some, None, is_some, if◌then◌else◌}
+use Rattle.std.specs.Prelude.{◌≡◌, ℕ, ℤ, nat_le, ◌&&◌, not, List, ◌∷◌, ◌++◌, [], length, map, filter, Option, Some, None, is_some, Result, Ok, Err, if◌then◌else◌}
 use Rattle.std.specs.Option.{option_map, option_or, option_to_list}
 use Rattle.std.specs.List.{range_with_len}
 use Rattle.eon_model.specs.declared.Part.TheVariants.{Work, Backup}
@@ -12,11 +12,11 @@ use Rattle.eon_model.specs.Commands.{Demand, PathWords}
 use Rattle.eon_model.specs.Replies.{Reply}
 use Rattle.eon_model.specs.Step as step
 use Rattle.eon_model.specs.Step.{AskedPath, Change, or_else, clash, enters, ◌when◌, asked, path_asked, asked_leg, is_node, is_fibre, unknown_in, fault_in, walks_between, reaches_end, is_in_band, risk_between, new_service}
-use Rattle.eon_model.specs.Grid.{Slot, Units, units_of, lies_in}
+use Rattle.eon_model.specs.Grid.{Slot, Band, units_of, lies_in_band}
 use Rattle.plan_core.specs.declared.demand.AskedPaths.{AskedPaths}
-use Rattle.plan_core.specs.declared.change.Change.TheVariants as change
-use Rattle.plan_core.specs.declared.change.Outcome.{Outcome}
-use Rattle.plan_core.specs.declared.change.Outcome.TheVariants as outcome
+use Rattle.eon_model.specs.Events.{Event, enter_text_of}
+use Rattle.reply_text.specs.declared.reply.Reply as code
+use Rattle.reply_text.specs.Replied.{reply_told}
 
 -- the names of the fibres of all paths, as written
 abbrev pub fibres_written : List Name → Option PathWords → List Name
@@ -65,9 +65,9 @@ fault_of setup d p =
     option_or (reach_fault setup d p) (option_or (risk_fault setup.network p) (band_fault setup d p))
 
 -- the slot with this centre and width, where it lies in the band
-abbrev pub slot_in_band : Units → ℤ → ℕ → Option Slot
+abbrev pub slot_in_band : Band → ℤ → ℕ → Option Slot
 slot_in_band band n m =
-    let s : Slot = record { n = n; m = m } in if lies_in band (units_of s) then Some s else None
+    let s : Slot = record { n = n; m = m } in if lies_in_band band (units_of s) then Some s else None
 
 -- the slot of a path within reach and in the band
 abbrev pub slot_if_fits : Setup → Demand → AskedPath → Option Slot
@@ -93,11 +93,10 @@ least_with net s t i least =
 
 -- ---- what enters
 
--- where something changes, this service enters
-abbrev pub EntersOnly : Outcome → Service → Type 0
-EntersOnly (outcome.Say reply) s = Unit {0}
-EntersOnly (outcome.Make (change.Enter service) reply) s = service ≡ s
-EntersOnly (outcome.Make (change.Leave name) reply) s = ⊥
+-- what it comes to that this service enters, with this reply, or that another reply refuses it
+abbrev pub entering : Reply → Result Service code.Reply → step.Outcome
+entering reply (Ok s) = Change (Event.Enter (enter_text_of s)) reply
+entering reply (Err refused) = step.Say (reply_told refused)
 
 -- the service that `place` asks for
 abbrev pub service_asked : Setup → Demand → AskedPaths → Service
@@ -107,5 +106,5 @@ service_asked setup d p = new_service setup.network d (asked_leg setup d p.work 
 abbrev pub placed_on : Setup → State → Demand → AskedPaths → step.Outcome
 placed_on setup state d p =
     or_else (fault_of setup d p)
-    (or_else (clash state d.name (asked_leg setup d p.work p.back))
+    (or_else (clash state d.name d.class (asked_leg setup d p.work p.back))
     (Change (enters setup.network d (asked_leg setup d p.work p.back)) (Reply.Placed d.name)))

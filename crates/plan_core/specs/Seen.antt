@@ -1,5 +1,5 @@
 -- What a machine is seen as.
-use Rattle.std.specs.Prelude.{ℕ, IsTrue, Option, refl}
+use Rattle.std.specs.Prelude.{ℕ, IsTrue, IfSome, Option, refl}
 use Rattle.std.specs.Coded.{Coded, code_by, coded×, coded_option}
 use Rattle.eon_model.specs.Services.{State}
 use Rattle.eon_model.specs.Legal.{Setup, Legal}
@@ -8,8 +8,8 @@ use Rattle.eon_model.specs.Codes.{state_code}
 use Rattle.eon_model.specs.SetupCodes.{setup_code}
 use Rattle.plan_core.specs.contracts.event.Event as event
 use Rattle.plan_core.specs.declared.event.Event.{Event}
-use Rattle.plan_core.specs.declared.change.Change.{Change}
-use Rattle.plan_core.specs.Kept.{CanWait}
+use Rattle.plan_core.specs.declared.proposal.Prepared.{Prepared}
+use Rattle.plan_core.specs.Waiting.{CanBeMade}
 
 -- A network, the services on it, and the change that waits.
 pub record CoreSeen : Type 0 where
@@ -24,7 +24,7 @@ seen_code = code_by (Setup × (State × Option Event))
     (λ s. (s.setup, (s.state, s.waiting))) (λ p. record { setup = p.0; state = p.1.0; waiting = p.1.1 }) (λ _. refl)
 
 -- the setup is in range, its services are legal, and the change that waits can be made
-pub record IsKept (setup : Setup) (state : State) (spare : ℕ) (waiting : Option Change) : Type 0 where
+pub record IsKept (setup : Setup) (state : State) (spare : ℕ) (q : Prepared) (waiting : Option Event) : Type 0 where
   pub in_range : IsTrue (is_setup setup)
   pub legal : Legal setup state
-  pub waits : CanWait setup state spare waiting
+  pub waits : IfSome waiting (CanBeMade setup state spare q)

@@ -4,6 +4,7 @@ use Rattle.std.specs.Option.{option_map}
 use Rattle.eon_model.specs.Services.{State}
 use Rattle.eon_model.specs.Legal.{Setup}
 use Rattle.eon_model.specs.Events as told
+use Rattle.eon_model.specs.Step as step
 use Rattle.eon_model.specs.Answers.{Answer, said, state_after}
 use Rattle.plan_core.specs.declared.event.PathText.{PathText}
 use Rattle.plan_core.specs.declared.event.LegText.{LegText}
@@ -35,6 +36,11 @@ enter_told s = record {
 abbrev pub event_told : Event → told.Event
 event_told (event.Enter service) = told.Event.Enter (enter_told service)
 event_told (event.Leave name) = told.Event.Leave name
+
+-- what a command comes to, in the planner's definitions
+abbrev pub outcome_told : Decision → step.Outcome
+outcome_told (Say reply) = step.Say (reply_told reply)
+outcome_told (Change e reply) = step.Change (event_told e) (reply_told reply)
 
 -- the change that waits behind a decision
 abbrev pub event_of : Decision → Option Event

@@ -6,7 +6,7 @@ use reply_text::Reply;
 #[derive(Drop)]
 pub enum Decision {
     /// A reply alone.
-    Say { reply: Reply },
+    Say(Reply),
     /// A change, and the reply that it has once it stands.
     Change { event: Event, reply: Reply },
 }

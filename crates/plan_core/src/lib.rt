@@ -2,22 +2,22 @@
 //! makes. The layer above opens a `Core`, hands it commands, and applies each change once it may stand.
 #![tactic(auto)]
 
-mod admitting;
-mod asked;
+mod admit;
+mod asked_paths;
+mod awaited;
 pub mod built;
-mod change;
 pub mod decision;
 mod demand;
+mod dispatch;
 pub mod event;
-mod fault;
-#[cfg(test)]
-mod fixtures;
-mod listing;
+mod listings;
+mod live;
 pub mod machine;
-mod placing;
+mod path_faults;
+mod place;
+mod proposal;
 mod refusal;
-mod routes_asked;
-mod routes_told;
+mod routes;
 #[cfg(test)]
 mod tests;
 

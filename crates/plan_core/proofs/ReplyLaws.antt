@@ -1,0 +1,246 @@
+-- What a command that is built says can be told: of the state, or of the one that follows the change.
+use Rattle.std.proofs.Common.{◌≡◌, refl, sym, ◌∙◌, ap, subst, ℕ, Bool, true, false, cond, not, [], ◌∷◌, ◌++◌, length, map, find, Option, Some, None, nat_eq}
+use Rattle.std.specs.Prelude.{is_some, nat_le, IfSome}
+use Rattle.std.specs.Option.{option_map, option_or, option_and_then}
+use Rattle.std.specs.List.{list_all}
+use Rattle.std.proofs.lemmas.List.Folds.{find-append}
+use Rattle.eon_model.specs.declared.Part.TheVariants.{Work, Backup}
+use Rattle.eon_model.specs.Names.{Name, same_name, least_name}
+use Rattle.eon_model.specs.Sets.{common_members}
+use Rattle.eon_model.specs.Network.{Network, fibre_of, risk_name}
+use Rattle.eon_model.specs.Route.{Route}
+use Rattle.eon_model.specs.Services.{Leg, Service, State, service_of}
+use Rattle.eon_model.specs.Legal.{Setup}
+use Rattle.eon_model.specs.NetworkText.{is_setup}
+use Rattle.eon_model.specs.Commands.{Demand, PathWords, Command}
+use Rattle.eon_model.specs.Replies.{Reply}
+use Rattle.eon_model.specs.Events as events
+use Rattle.eon_model.specs.Listings.{map_text}
+use Rattle.eon_model.specs.Step.{Outcome, Say, Change, SayPlan, or_else, ◌when◌, or_blocked, AskedPath, asked, is_node, unknown_in, enters, for_service, for_number, node_numbered, routes_shown, place, admit, routes, outcome_of}
+use Rattle.eon_model.proofs.NameLaws.{names_equal}
+use Rattle.eon_model.proofs.ChangeLaws.{otherwise-Change, tried}
+use Rattle.reply_text.specs.Tellable.{can_show, can_tell}
+use Rattle.plan_core.specs.declared.decision.Decision.{Decision}
+use Rattle.plan_core.specs.declared.decision.Decision.TheVariants as decision
+use Rattle.plan_core.specs.Built.{is_built}
+use Rattle.plan_core.specs.Told.{outcome_told, CanBeTold}
+use Rattle.plan_core.proofs.ShownLaws.{shown-over}
+
+-- ---- causes
+
+-- what a cause says can be told of each state
+abbrev Plain : Setup → State → Option Reply → Type 0
+Plain setup state cause = (r : Reply) → cause ≡ Some r → can_tell setup state r ≡ true
+
+plain-map : (setup : Setup) (state : State) {X : Type 0} (f : X → Reply) (o : Option X) →
+    ((x : X) → can_tell setup state (f x) ≡ true) → Plain setup state (option_map f o)
+plain-map setup state f None h r e = cc
+plain-map setup state f (Some x) h r e =
+    let same : f x ≡ r = cc in subst (λ (q : Reply). can_tell setup state q ≡ true) same (h x)
+
+plain-when : (setup : Setup) (state : State) (q : Reply) (b : Bool) → can_tell setup state q ≡ true →
+    Plain setup state (q when b)
+plain-when setup state q true h r e = let same : q ≡ r = cc in subst (λ (x : Reply). can_tell setup state x ≡ true) same h
+plain-when setup state q false h r e = cc
+
+plain-risk : (setup : Setup) (state : State) (net : Network) (work : Route) (back : Option AskedPath) →
+    Plain setup state (option_and_then (λ b. option_map Reply.Risk
+    (least_name (map (risk_name net) (common_members work.risk b.route.risk)))) back)
+plain-risk setup state net work None r e = cc
+plain-risk setup state net work (Some b) r e =
+    plain-map setup state Reply.Risk (least_name (map (risk_name net) (common_members work.risk b.route.risk)))
+    (λ x. refl) r e
+
+plain-else : (setup : Setup) (state : State) (cause : Option Reply) (rest : Outcome) (r : Reply) →
+    Plain setup state cause → (rest ≡ Say r → can_tell setup state r ≡ true) → or_else cause rest ≡ Say r →
+    can_tell setup state r ≡ true
+unfolding or_else
+plain-else setup state None rest r h more e = more e
+plain-else setup state (Some q) rest r h more e = let same : q ≡ r = cc in h r (ap Some same)
+
+not-said : (e : events.Event) (q r : Reply) → Change e q ≡ Say r → ⊥
+not-said e q r h = cc
+
+plain-say : (setup : Setup) (state : State) (q r : Reply) → can_tell setup state q ≡ true → Say q ≡ Say r →
+    can_tell setup state r ≡ true
+plain-say setup state q r h e = let same : q ≡ r = cc in subst (λ (x : Reply). can_tell setup state x ≡ true) same h
+
+-- ---- replies alone
+
+place-said : (setup : Setup) (state : State) (d : Demand) (w : PathWords) (b : Option PathWords) (r : Reply) →
+    place setup state d w b ≡ Say r → can_tell setup state r ≡ true
+place-said setup state d w b r =
+    plain-else setup state _ _ r (plain-map setup state Reply.Unknown _ (λ x. refl))
+    (plain-else setup state _ _ r (plain-map setup state Reply.Unknown _ (λ x. refl))
+    (plain-else setup state _ _ r (plain-when setup state (Reply.Taken d.name) _ refl)
+    (plain-else setup state _ _ r (plain-when setup state Reply.FullServices _ refl)
+    (plain-else setup state _ _ r (plain-map setup state (λ (p : AskedPath). Reply.Path p.part) _ (λ x. refl))
+    (plain-else setup state _ _ r (plain-map setup state (λ (p : AskedPath). Reply.Reach p.part) _ (λ x. refl))
+    (plain-else setup state _ _ r (plain-risk setup state setup.network (asked setup.network Work w).route
+    (option_map (asked setup.network Backup) b))
+    (plain-else setup state _ _ r (plain-map setup state (λ (p : AskedPath). Reply.Band p.part) _ (λ x. refl))
+    (plain-else setup state _ _ r (plain-map setup state Reply.Clash _ (λ x. refl))
+    (λ h. absurd (not-said _ _ r h))))))))))
+
+tried-said : (setup : Setup) (state : State) (pairs : ℕ) (found : Option Leg) (go : Leg → events.Event) (q r : Reply) →
+    or_blocked pairs found (λ l. Change (go l) q) ≡ Say r → can_tell setup state r ≡ true
+tried-said setup state pairs None go q r h = plain-say setup state (Reply.Blocked pairs) r refl h
+tried-said setup state pairs (Some l) go q r h = absurd (not-said (go l) q r h)
+
+admit-said : (setup : Setup) (state : State) (d : Demand) (r : Reply) → admit setup state d ≡ Say r →
+    can_tell setup state r ≡ true
+admit-said setup state d r =
+    plain-else setup state _ _ r (plain-map setup state Reply.Unknown _ (λ x. refl))
+    (plain-else setup state _ _ r (plain-when setup state (Reply.Taken d.name) _ refl)
+    (plain-else setup state _ _ r (plain-when setup state Reply.FullServices _ refl)
+    (plain-else setup state _ _ r (plain-when setup state Reply.NoRoute _ refl)
+    (tried-said setup state _ _ (λ l. enters setup.network d l) (Reply.Admitted d.name) r))))
+
+release-said : (setup : Setup) (state : State) (found : Option Service) (name : Name) (r : Reply) →
+    for_service found name (λ s. Change (events.Event.Leave name) (Reply.Released name)) ≡ Say r →
+    can_tell setup state r ≡ true
+release-said setup state None name r h = plain-say setup state (Reply.Unknown name) r refl h
+release-said setup state (Some s) name r h = absurd (not-said (events.Event.Leave name) (Reply.Released name) r h)
+
+show-said : (setup : Setup) (state : State) (found : Option Service) (name : Name) (r : Reply) →
+    service_of state name ≡ found → for_service found name (λ s. Say (Reply.Show name)) ≡ Say r →
+    can_tell setup state r ≡ true
+show-said setup state None name r e h = plain-say setup state (Reply.Unknown name) r refl h
+show-said setup state (Some s) name r e h = plain-say setup state (Reply.Show name) r (ap is_some e) h
+
+map-said : (setup : Setup) (state : State) (number : Option ℕ) (name : Name) (r : Reply) →
+    for_number number name (λ i. Say (Reply.Map (map_text setup state i))) ≡ Say r → can_tell setup state r ≡ true
+map-said setup state None name r h = plain-say setup state (Reply.Unknown name) r refl h
+map-said setup state (Some i) name r h = plain-say setup state (Reply.Map (map_text setup state i)) r refl h
+
+routes-said : (setup : Setup) (state : State) (s t : Name) (r : Reply) → is_setup setup ≡ true →
+    routes setup s t ≡ Say r → can_tell setup state r ≡ true
+routes-said setup state s t r ok =
+    plain-else setup state (unknown_in (is_node setup.network) (s ∷ t ∷ [])) _ r
+    (plain-map setup state Reply.Unknown _ (λ x. refl))
+    (plain-say setup state _ r (shown-over setup (node_numbered setup.network s) (node_numbered setup.network t) _ ok refl))
+
+outcome-said : (setup : Setup) (state : State) (c : Command) (r : Reply) → is_setup setup ≡ true →
+    is_built c ≡ true → outcome_of setup state c ≡ Say r → can_tell setup state r ≡ true
+outcome-said setup state (Command.Place d w b) r ok built h = place-said setup state d w b r h
+outcome-said setup state (Command.Admit d) r ok built h = admit-said setup state d r h
+outcome-said setup state (Command.Release name) r ok built h =
+    release-said setup state (service_of state name) name r h
+outcome-said setup state (Command.Push name n) r ok built h = cc
+outcome-said setup state (Command.Make name avoid) r ok built h = cc
+outcome-said setup state (Command.Finish name) r ok built h = cc
+outcome-said setup state (Command.Back name) r ok built h = cc
+outcome-said setup state (Command.Refit name) r ok built h = cc
+outcome-said setup state Command.Compact r ok built h = cc
+outcome-said setup state (Command.Drill g) r ok built h = cc
+outcome-said setup state (Command.Routes s t) r ok built h = routes-said setup state s t r ok h
+outcome-said setup state (Command.Show name) r ok built h = show-said setup state (service_of state name) name r refl h
+outcome-said setup state Command.List r ok built h = plain-say setup state Reply.List r refl h
+outcome-said setup state (Command.Map name) r ok built h =
+    map-said setup state (fibre_of setup.network name) name r h
+outcome-said setup state Command.Stats r ok built h = plain-say setup state _ r refl h
+outcome-said setup state Command.Report r ok built h = plain-say setup state _ r refl h
+outcome-said setup state Command.Quit r ok built h = plain-say setup state Reply.Bye r refl h
+
+-- ---- replies of changes
+
+found-last : (state : State) (s : Service) (name : Name) → s.name ≡ name →
+    is_some (service_of (state ++ s ∷ []) name) ≡ true
+found-last state s name same =
+    ap is_some (find-append (λ x. same_name x.name name) state (s ∷ []))
+    ∙ last (service_of state name) (same_name s.name name)
+    (ap (λ (n : Name). same_name n name) same ∙ names_equal.refl name)
+  where
+    last : (found : Option Service) (b : Bool) → b ≡ true → is_some (option_or found (cond b (Some s) None)) ≡ true
+    last None true h = refl
+    last None false h = cc
+    last (Some x) b h = refl
+
+-- the service is there once it entered
+entered-tells : (setup : Setup) (state : State) (text : events.EnterText) (q r : Reply) (e : events.Event) →
+    ((now : State) → is_some (service_of now text.name) ≡ true → can_tell setup now q ≡ true) →
+    Change (events.Event.Enter text) q ≡ Change e r → can_tell setup (events.apply setup.network state e) r ≡ true
+entered-tells setup state text q r e tells h =
+    let event-is : events.Event.Enter text ≡ e = cc in
+    let reply-is : q ≡ r = cc in
+    subst (λ (x : events.Event). can_tell setup (events.apply setup.network state x) r ≡ true) event-is
+    (subst (λ (x : Reply). can_tell setup (state ++ events.service_told setup.network text ∷ []) x ≡ true) reply-is
+    (tells (state ++ events.service_told setup.network text ∷ [])
+    (found-last state (events.service_told setup.network text) text.name refl)))
+
+place-changed : (setup : Setup) (state : State) (d : Demand) (w : PathWords) (b : Option PathWords)
+    (e : events.Event) (r : Reply) → place setup state d w b ≡ Change e r →
+    can_tell setup (events.apply setup.network state e) r ≡ true
+place-changed setup state d w b e r h =
+    let p1 = otherwise-Change _ _ e r h in
+    let p2 = otherwise-Change _ _ e r p1.1 in
+    let p3 = otherwise-Change _ _ e r p2.1 in
+    let p4 = otherwise-Change _ _ e r p3.1 in
+    let p5 = otherwise-Change _ _ e r p4.1 in
+    let p6 = otherwise-Change _ _ e r p5.1 in
+    let p7 = otherwise-Change _ _ e r p6.1 in
+    let p8 = otherwise-Change _ _ e r p7.1 in
+    let p9 = otherwise-Change _ _ e r p8.1 in
+    entered-tells setup state _ (Reply.Placed d.name) r e (λ now there. there) p9.1
+
+admit-changed : (setup : Setup) (state : State) (d : Demand) (e : events.Event) (r : Reply) →
+    admit setup state d ≡ Change e r → can_tell setup (events.apply setup.network state e) r ≡ true
+admit-changed setup state d e r h =
+    let p1 = otherwise-Change _ _ e r h in
+    let p2 = otherwise-Change _ _ e r p1.1 in
+    let p3 = otherwise-Change _ _ e r p2.1 in
+    let p4 = otherwise-Change _ _ e r p3.1 in
+    let t = tried _ _ (λ l. Change (enters setup.network d l) (Reply.Admitted d.name)) e r p4.1 in
+    entered-tells setup state _ (Reply.Admitted d.name) r e (λ now there. there) t.2
+
+release-changed : (setup : Setup) (now : State) (found : Option Service) (name : Name) (e : events.Event) (r : Reply) →
+    for_service found name (λ s. Change (events.Event.Leave name) (Reply.Released name)) ≡ Change e r →
+    can_tell setup now r ≡ true
+release-changed setup now None name e r h = cc
+release-changed setup now (Some s) name e r h =
+    let same : Reply.Released name ≡ r = cc in subst (λ (x : Reply). can_tell setup now x ≡ true) same refl
+
+said-alone : (found : Option Service) (name : Name) (q : Reply) (e : events.Event) (r : Reply) →
+    for_service found name (λ s. Say q) ≡ Change e r → ⊥
+said-alone None name q e r h = cc
+said-alone (Some s) name q e r h = cc
+
+said-number : (number : Option ℕ) (name : Name) (q : ℕ → Reply) (e : events.Event) (r : Reply) →
+    for_number number name (λ i. Say (q i)) ≡ Change e r → ⊥
+said-number None name q e r h = cc
+said-number (Some i) name q e r h = cc
+
+said-else : (cause : Option Reply) (q : Reply) (e : events.Event) (r : Reply) → or_else cause (Say q) ≡ Change e r → ⊥
+unfolding or_else
+said-else None q e r h = cc
+said-else (Some x) q e r h = cc
+
+outcome-changed : (setup : Setup) (state : State) (c : Command) (e : events.Event) (r : Reply) → is_built c ≡ true →
+    outcome_of setup state c ≡ Change e r → can_tell setup (events.apply setup.network state e) r ≡ true
+outcome-changed setup state (Command.Place d w b) e r built h = place-changed setup state d w b e r h
+outcome-changed setup state (Command.Admit d) e r built h = admit-changed setup state d e r h
+outcome-changed setup state (Command.Release name) e r built h =
+    release-changed setup (events.apply setup.network state e) (service_of state name) name e r h
+outcome-changed setup state (Command.Push name n) e r built h = cc
+outcome-changed setup state (Command.Make name avoid) e r built h = cc
+outcome-changed setup state (Command.Finish name) e r built h = cc
+outcome-changed setup state (Command.Back name) e r built h = cc
+outcome-changed setup state (Command.Refit name) e r built h = cc
+outcome-changed setup state Command.Compact e r built h = cc
+outcome-changed setup state (Command.Drill g) e r built h = cc
+outcome-changed setup state (Command.Routes s t) e r built h = absurd (said-else _ _ e r h)
+outcome-changed setup state (Command.Show name) e r built h =
+    absurd (said-alone (service_of state name) name (Reply.Show name) e r h)
+outcome-changed setup state Command.List e r built h = cc
+outcome-changed setup state (Command.Map name) e r built h =
+    absurd (said-number (fibre_of setup.network name) name (λ i. Reply.Map (map_text setup state i)) e r h)
+outcome-changed setup state Command.Stats e r built h = cc
+outcome-changed setup state Command.Report e r built h = cc
+outcome-changed setup state Command.Quit e r built h = cc
+
+-- ---- what is decided
+
+pub outcome-tells : (setup : Setup) (state : State) (c : Command) (d : Decision) → is_setup setup ≡ true →
+    is_built c ≡ true → outcome_told d ≡ outcome_of setup state c → CanBeTold setup state d
+outcome-tells setup state c (decision.Say r) ok built h = outcome-said setup state c _ ok built (sym h)
+outcome-tells setup state c (decision.Change e r) ok built h = outcome-changed setup state c _ _ built (sym h)

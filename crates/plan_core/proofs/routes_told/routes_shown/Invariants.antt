@@ -1,4 +1,0 @@
-use Rattle.plan_core.proofs.routes_told.routes_shown.Given as goal
-
-abbrev pub ghosts-routes_counted : goal.ghosts-routes_counted
-ghosts-routes_counted a = record { name = a.blank.name; parts = a.blank.parts }

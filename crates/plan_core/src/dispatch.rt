@@ -1,0 +1,113 @@
+//! What each command comes to.
+ghost use Rattle.std.specs.Prelude.{◌≡◌, false, IsTrue, IsOk, IfOk};
+ghost use Rattle.eon_model.specs.Legal.{Legal};
+ghost use Rattle.eon_model.specs.NetworkText.{is_setup};
+ghost use Rattle.eon_model.specs.CommandText.{is_command};
+ghost use Rattle.eon_model.specs.Step as step;
+ghost use Rattle.eon_model.specs.Replies.{Reply as said};
+ghost use Rattle.eon_model.specs.Answers.{takes_memory};
+ghost use Rattle.command_text.specs.Told.{told};
+ghost use Rattle.reply_text.specs.Replied.{reply_told};
+ghost use Rattle.plan_core.specs.Built.{is_built};
+ghost use Rattle.plan_core.specs.Told.{outcome_told};
+ghost use Rattle.plan_core.specs.Waiting.{IsPrepared};
+
+use crate::admit::admit;
+use crate::demand::Demand;
+use crate::listings::{map, report, stats};
+use crate::place::place;
+use crate::proposal::{Prepared, Proposal, leave, say};
+use crate::routes::routes_between;
+use command_text::Command;
+use eon_base::name::Name;
+use eon_model::Class;
+use leg_state::Services;
+use net_setup::NetSetup;
+use reply_text::Reply;
+use std::alloc::{AllocError, Global};
+
+// What `release` comes to.
+fn release(services: &Services, name: &Name) -> Proposal
+    ensures is { outcome_told result.decision ≡ step.release services.now.list name.now }
+    ensures prepared { result.prepared ≡ Prepared.Nothing }
+{
+    match services.find(name) {
+        Some(_) => leave(*name, Reply::Released { name: *name }),
+        None => say(Reply::Unknown { name: *name }),
+    }
+}
+
+// What `show` says.
+fn show(services: &Services, name: &Name) -> Reply
+    ensures { step.Say (reply_told result) ≡ step.with_service services.now.list name.now (λ s. step.Say (said.Show name.now)) }
+{
+    match services.find(name) {
+        Some(_) => Reply::Show { name: *name },
+        None => Reply::Unknown { name: *name },
+    }
+}
+
+// The service that these words ask for.
+fn demand_of(name: &Name, src: &Name, dst: &Name, rate: u32, class: Class) -> Demand
+    ensures { result ≡ record { name = name.now; src = src.now; dst = dst.now; rate = rate; class = class } }
+{
+    Demand {
+        name: *name,
+        src: *src,
+        dst: *dst,
+        rate,
+        class,
+    }
+}
+
+/// What a command that is built comes to.
+pub fn proposal_for(
+    alloc: Global,
+    setup: &NetSetup,
+    services: &Services,
+    command: &Command,
+) -> Result<Proposal, AllocError>
+    requires setup { IsTrue (is_setup setup.now) }
+    requires legal { Legal setup.now services.now.list }
+    requires in_range { IsTrue (is_command (told command.now)) }
+    requires built { IsTrue (is_built (told command.now)) }
+    ensures is { IfOk result (λ p. outcome_told p.decision ≡ step.outcome_of setup.now services.now.list (told command.now)) }
+    ensures prepared { IfOk result (λ p. IsPrepared setup.now.network p.decision p.prepared) }
+    ensures no_memory { takes_memory (told command.now) ≡ false → IfOk result (λ p. p.prepared ≡ Prepared.Nothing) }
+    ensures answered { takes_memory (told command.now) ≡ false → IsOk result }
+{
+    match command {
+        Command::Place {
+            name,
+            src,
+            dst,
+            rate,
+            class,
+            work,
+            work_n,
+            back,
+        } => {
+            let demand = demand_of(name, src, dst, *rate, *class);
+            place(alloc, setup, services, &demand, work, *work_n, back)
+        }
+        Command::Admit {
+            name,
+            src,
+            dst,
+            rate,
+            class,
+        } => {
+            let demand = demand_of(name, src, dst, *rate, *class);
+            admit(alloc, setup, services, &demand)
+        }
+        Command::Release { name } => Ok(release(services, name)),
+        Command::Show { name } => Ok(say(show(services, name))),
+        Command::List => Ok(say(Reply::List)),
+        Command::Map { fibre } => Ok(say(map(alloc, setup, services, fibre)?)),
+        Command::Stats => Ok(say(stats(setup, services))),
+        Command::Report => Ok(say(report(alloc, setup, services)?)),
+        Command::Routes { src, dst } => Ok(say(routes_between(alloc, setup, src, dst)?)),
+        Command::Quit => Ok(say(Reply::Bye)),
+        _ => unreachable!(),
+    }
+}
