@@ -11,6 +11,7 @@ use net_graph::{Net, NetBuilder};
 use net_setup::NetSetup;
 use reach_table::format::Format;
 use reach_table::table::Table;
+use reply_text::Reply;
 use std::alloc::Global;
 use std::test::Fail;
 
@@ -78,13 +79,13 @@ fn decided(core: &mut Core, line: &[u8]) -> Result<Decision, Fail>
     Ok(core.step(&command)?)
 }
 
-// Makes the change that the line comes to.
-fn change(core: &mut Core, line: &[u8]) -> Result<(), Fail> {
+// Makes the change that the line comes to, and gives its reply.
+fn changed(core: &mut Core, line: &[u8]) -> Result<Reply, Fail> {
     match decided(core, line)? {
         Decision::Say(_) => Err(Fail::from("a reply alone")),
-        Decision::Change { event, .. } => {
+        Decision::Change { event, reply } => {
             core.apply(event);
-            Ok(())
+            Ok(reply)
         }
     }
 }
@@ -92,10 +93,10 @@ fn change(core: &mut Core, line: &[u8]) -> Result<(), Fail> {
 #[test]
 fn services_enter_and_leave(rt: HostRuntime) -> Result<(), Fail> {
     let mut core = Core::open(rt.alloc(), setup(rt.alloc())?)?;
-    change(&mut core, b"admit s1 A B 100 bare")?;
-    change(&mut core, b"place s2 A B 100 bare ab 0")?;
+    let _ = changed(&mut core, b"admit s1 A B 100 bare")?;
+    let _ = changed(&mut core, b"place s2 A B 100 bare ab 0")?;
     assert_eq!(rt; core.services().len(), 2);
-    change(&mut core, b"release s1")?;
+    let _ = changed(&mut core, b"release s1")?;
     assert_eq!(rt; core.services().len(), 1);
     Ok(())
 }
