@@ -4,12 +4,17 @@
 
 mod buffer;
 mod event;
+mod fault;
+mod fields;
+mod reading;
 mod writing;
 
 pub use buffer::EventBuf;
 pub use eon_base::name::Name;
 pub use eon_model::Class;
 pub use event::{EnterText, Event, LegText, PathText};
+pub use fault::EventFault;
 pub use flex_grid::slot::Slot;
 pub use leg_state::FibreNumbers;
+pub use reading::read_event;
 pub use writing::{need, write_event};
