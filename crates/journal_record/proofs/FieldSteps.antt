@@ -1,6 +1,6 @@
 -- Fields as they stand at the front of some bytes.
-use Rattle.std.proofs.Common.{◌≡◌, refl, sym, ◌∙◌, ap, ℕ, zero, suc, ◌+◌, ◌<◌, ◌≤◌, Bool, true, false, cond, not, List, [], ◌∷◌, ◌++◌, length, take, drop, Option, Some, None, All, arith}
-use Rattle.std.specs.Prelude.{nat_lt, position, slice_index, Result, Ok, Err, if◌then◌else◌}
+use Rattle.std.proofs.Common.{◌≡◌, refl, sym, ◌∙◌, ap, ℕ, suc, ◌+◌, ◌≤◌, true, false, cond, not, List, [], ◌∷◌, length, take, drop, None, arith}
+use Rattle.std.specs.Prelude.{nat_lt, position, slice_index, Ok, Err, if◌then◌else◌}
 use Rattle.std.proofs.lemmas.Bool.{ltb-true, false_from_ne_true}
 use Rattle.std.specs.Prelude.{is_none}
 use Rattle.std.specs.List.{list_all}
@@ -8,7 +8,7 @@ use Rattle.std.proofs.lemmas.List.Sums.{AllPass-from_list_all}
 use Rattle.eon_base.proofs.NameLemmas.{none_fails}
 use Rattle.leg_state.specs.Parts.{AreFibreNumbers}
 use Rattle.eon_model.specs.Names.{Name, is_name}
-use Rattle.eon_model.specs.EventFault.{NameField, field_size, field_holds, EventFault, FieldAt}
+use Rattle.eon_model.specs.EventFault.{NameField, EventFault, FieldAt}
 use Rattle.journal_record.specs.Reading.{Read, field_at, name_in}
 
 -- a name behind its length

@@ -1,13 +1,11 @@
 -- What reading answers, against the fields that are due: a value whose bytes stand in front, or the first fault.
-use Rattle.std.proofs.Common.{◌≡◌, refl, sym, ◌∙◌, ap, subst, ℕ, zero, suc, ◌+◌, ◌<◌, ◌≤◌, Bool, true, false, cond, not, ◌&&◌, List, [], ◌∷◌, ◌++◌, length, take, drop, replicate, Option, Some, None, arith}
-use Rattle.std.specs.Prelude.{nat_lt, position, Result, Ok, Err}
-use Rattle.std.specs.List.{list_all, position_from}
-use Rattle.std.proofs.lemmas.Bool.{and_from, not_from_false, ltb-false, ltb-true}
+use Rattle.std.proofs.Common.{◌≡◌, refl, sym, ◌∙◌, ap, subst, ℕ, zero, suc, ◌+◌, ◌<◌, ◌≤◌, Bool, true, false, cond, List, [], ◌∷◌, ◌++◌, length, take, drop, Option, Some, arith}
+use Rattle.std.specs.Prelude.{nat_lt, Ok, Err}
+use Rattle.std.proofs.lemmas.Bool.{ltb-false}
 use Rattle.std.proofs.lemmas.List.{append_assoc, length-drop, take-append-drop}
-use Rattle.std.proofs.lemmas.Iterator.Adapters.{position_from-zero}
-use Rattle.eon_model.specs.EventFault.{Field, FibreField, field_size, field_holds, fields_told, EventFault, FieldAt, fault_from}
+use Rattle.eon_model.specs.EventFault.{Field, field_size, field_holds, fields_told, EventFault, FieldAt, fault_from}
 use Rattle.eon_model.proofs.EventFields.{AreBytes, bytes_behind}
-use Rattle.journal_record.specs.Reading.{Read, ◌>>=◌, field_at, fibres_but, fibres_at}
+use Rattle.journal_record.specs.Reading.{Read, ◌>>=◌, field_at}
 
 -- with more turns than bytes, this is the first fault of the fields in these bytes
 abbrev pub Refuses : List Field → ℕ → List ℕ → EventFault → Type 0

@@ -1,2 +1,7 @@
 pub mod FieldSteps
 pub mod JudgedParts
+pub mod JudgedFields
+pub mod JudgedFibres
+pub mod JudgedLegs
+pub mod JudgedEvents
+pub mod ReadLaws

@@ -1,6 +1,6 @@
 -- What is read of an event's bytes, field after field: a value, the offset behind it and the bytes from there on; or
 -- the first fault.
-use Rattle.std.specs.Prelude.{ℕ, zero, suc, ◌+◌, ◌==◌, nat_lt, not, ℤ, List, [], ◌∷◌, length, take, drop, slice_index, position, Option, Some, None, Result, Ok, Err, if◌then◌else◌}
+use Rattle.std.specs.Prelude.{ℕ, ◌+◌, ◌==◌, nat_lt, not, ℤ, List, [], ◌∷◌, length, take, drop, slice_index, position, Option, Some, None, Result, Ok, Err, if◌then◌else◌}
 use Rattle.std.specs.Int.{w16, w32, from_be_bytes, cast_signed}
 use Rattle.eon_model.specs.declared.Class.{Class}
 use Rattle.eon_model.specs.declared.Class.TheVariants.{Bare, Shared, Dual}

@@ -1,9 +1,12 @@
 //! Reading the bytes of an event.
-ghost use Rattle.std.specs.Prelude.{◌≡◌, ◌+◌, ◌≤◌, IfOk};
+ghost use Rattle.std.specs.Prelude.{◌≡◌, ◌+◌, ◌≤◌, IfOk, IsTrue};
+ghost use Rattle.std.specs.Result.{result_err};
 ghost use Rattle.std.specs.Option.{option_map};
+ghost use Rattle.eon_model.specs.EventText.{is_event, event_text};
+ghost use Rattle.eon_model.specs.EventFault.{event_fault};
 ghost use Rattle.journal_record.specs.Reading.{path_at, back_at, leg_at, enter_at, make_at, fields_at, event_read};
 ghost use Rattle.journal_record.specs.Told.{path_told, leg_told, enter_told, event_told};
-ghost use Rattle.journal_record.specs.Given.{Leaves, Gives};
+ghost use Rattle.journal_record.specs.Given.{Leaves, Gives, fault_told};
 
 use crate::event::{EnterText, Event, LegText, PathText};
 use crate::fault::EventFault;
@@ -121,9 +124,8 @@ fn fields_at(kind: u8, fields: &mut Fields) -> Result<Event, EventFault>
     }
 }
 
-/// The event that these bytes are; else their first fault, in the order of the fields.
 #[tactic(auto, unfolding(crate::specs::Reading::event_read))]
-pub fn read_event(bytes: &[u8]) -> Result<Event, EventFault>
+fn event_in(bytes: &[u8]) -> Result<Event, EventFault>
     ensures { Gives event_told result (event_read bytes.now) }
 {
     let Some((kind, rest)) = bytes.split_first() else {
@@ -136,4 +138,13 @@ pub fn read_event(bytes: &[u8]) -> Result<Event, EventFault>
     } else {
         Err(EventFault::Rest)
     }
+}
+
+/// The event that these bytes are, which is in range; else their first fault, in the order of the fields.
+pub fn read_event(bytes: &[u8]) -> Result<Event, EventFault>
+    ensures range { IfOk result (λ e. IsTrue (is_event (event_told e))) }
+    ensures bytes { IfOk result (λ e. event_text (event_told e) ≡ bytes.now) }
+    ensures fault { option_map fault_told (result_err result) ≡ event_fault bytes.now }
+{
+    event_in(bytes)
 }

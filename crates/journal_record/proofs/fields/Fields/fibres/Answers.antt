@@ -1,7 +1,5 @@
-use Rattle.std.proofs.Common.{rules, ◌≡◌, sym, ◌∙◌, ap, ℕ, ◌+◌, ◌≤◌, length, take, arith}
-use Rattle.std.proofs.lemmas.List.{length-take}
+use Rattle.std.proofs.Common.{rules}
 use Rattle.journal_record.proofs.FieldSteps.{are_numbers}
-use Rattle.journal_record.proofs.JudgedParts.{judged-field}
 use Rattle.journal_record.proofs.fields.Fields.fibres.Goals as goal
 
 -- src/fields.rt
