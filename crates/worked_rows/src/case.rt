@@ -73,7 +73,7 @@ fn called(rt: &HostRuntime, words: &[String]) -> Result<(u8, Vec<u8>), AllocErro
 /// The network text as it is printed; nothing where it is refused.
 fn printed(alloc: Global, text: &[u8]) -> Result<Vec<u8>, AllocError> {
     let mut out = Vec::new(alloc);
-    if text.len() <= 1_048_576 && let Ok(setup) = read_net(alloc, text) {
+    if let Ok(setup) = read_net(alloc, text) {
         print_net(&setup, &mut out)?;
     }
     Ok(out)
