@@ -8,6 +8,9 @@ use std::alloc::{AllocError, Global};
 /// The most bytes that a call may write here.
 const ROOM: usize = 1_048_576;
 
+/// The file that holds an empty stream.
+const EMPTY: &str = "nothing";
+
 /// A call, and what it has to come to.
 #[derive(Drop)]
 pub enum Case {
@@ -18,7 +21,14 @@ pub enum Case {
         words: Vec<String>,
     },
     /// The network text of this name is read, and printed back as it stands.
-    PrintedBack { name: String },
+    PrintedBack {
+        name: String,
+    },
+    /// The planner refuses the network of this name, and says where and why.
+    Refused {
+        name: String,
+        fault: String,
+    },
 }
 
 /// What came out of a case.
@@ -40,7 +50,7 @@ fn words_of(alloc: Global, line: &str) -> Result<Vec<String>, AllocError> {
 }
 
 impl Case {
-    /// Reads a line: `back FILE`, or `CODE FILE` and the words of a call.
+    /// Reads a line: `back FILE`, `refused FILE LINE WORD`, or `CODE FILE` and the words of a call.
     pub fn read(alloc: Global, line: &str) -> Result<Case, FileFault> {
         let Some((first, rest)) = line.split_once(' ') else {
             return Err(FileFault::Text);
@@ -48,6 +58,9 @@ impl Case {
         if first == "back" {
             let name = String::from_str(alloc, rest)?;
             return Ok(Case::PrintedBack { name });
+        }
+        if first == "refused" {
+            return Case::read_refusal(alloc, rest);
         }
         let Ok(code) = first.parse::<u8>() else {
             return Err(FileFault::Text);
@@ -57,6 +70,17 @@ impl Case {
             code,
             written: String::from_str(alloc, written)?,
             words: words_of(alloc, words)?,
+        })
+    }
+
+    /// Reads `FILE LINE WORD`.
+    fn read_refusal(alloc: Global, rest: &str) -> Result<Case, FileFault> {
+        let Some((name, fault)) = rest.split_once(' ') else {
+            return Err(FileFault::Text);
+        };
+        Ok(Case::Refused {
+            name: String::from_str(alloc, name)?,
+            fault: format!(in alloc; "net {fault}\n")?,
         })
     }
 }
@@ -79,6 +103,16 @@ fn printed(alloc: Global, text: &[u8]) -> Result<Vec<u8>, AllocError> {
     Ok(out)
 }
 
+/// What `dry` over this network and an empty stream comes to.
+fn dry_over(rt: &HostRuntime, network: &str) -> Result<(u8, Vec<u8>), AllocError> {
+    let alloc = rt.alloc();
+    let mut words = Vec::new(alloc);
+    for word in ["dry", network, EMPTY] {
+        words.push(String::from_str(alloc, word)?)?;
+    }
+    called(rt, words.as_slice())
+}
+
 /// Tries the case.
 pub fn outcome_of(rt: &HostRuntime, case: &Case) -> Result<Outcome, FileFault> {
     let (wanted, stored, code, written) = match case {
@@ -95,6 +129,11 @@ pub fn outcome_of(rt: &HostRuntime, case: &Case) -> Result<Outcome, FileFault> {
             let stored = file_of(rt, name.as_str())?;
             let given = printed(rt.alloc(), stored.as_slice())?;
             (0, stored, 0, given)
+        }
+        Case::Refused { name, fault } => {
+            let stored = fault.as_bytes().to_vec(rt.alloc())?;
+            let (ended, given) = dry_over(rt, name.as_str())?;
+            (2, stored, ended, given)
         }
     };
     if wanted == code && stored.as_slice() == written.as_slice() {
