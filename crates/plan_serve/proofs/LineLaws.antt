@@ -4,9 +4,8 @@ use Rattle.std.specs.Prelude.{IsTrue, ◌==◌, if◌then◌else◌}
 use Rattle.std.specs.List.{list_all}
 use Rattle.std.proofs.lemmas.Bool.{and_parts, and_from, not-true}
 use Rattle.std.proofs.lemmas.Grind.{flat_map-append}
-use Rattle.eon_model.specs.Run.{lines_of, byte_before}
-use Rattle.plan_serve.specs.Lines.{whole_lines, before_some, has_no_end}
-use Rattle.plan_serve.specs.Session.{ended, Splits, last_line}
+use Rattle.eon_model.specs.LineStream.{lines_of, byte_before}
+use Rattle.plan_serve.specs.Lines.{whole_lines, before_some, has_no_end, ended, Splits}
 
 else_of : {X : Type 0} (t : Bool) (x y : X) → t ≡ false → (if t then x else y) ≡ y
 else_of true x y e = absurd (cc)
@@ -46,17 +45,12 @@ lines_of-ended (l ∷ lines) rest h =
     ap lines_of (next_line l (ended lines) rest) ∙ lines_of-line l (ended lines ++ rest) each.0
     ∙ ap (λ (v : List (List ℕ)). l ∷ v) (lines_of-ended lines rest each.1)
 
-byte_before-last : (b : ℕ) (l : List ℕ) → byte_before b (last_line l) ≡ (b ∷ l) ∷ []
-byte_before-last b [] = refl
-byte_before-last b (c ∷ l) = refl
-
--- bytes without an end are one line, where there are any
-pub lines_of-last : (rest : List ℕ) → IsTrue (has_no_end rest) → lines_of rest ≡ last_line rest
-lines_of-last [] h = refl
-lines_of-last (b ∷ rest) h =
-    let parts = no_end_parts b rest h in
-    else_of (b == 10) _ _ parts.0 ∙ ap (byte_before b) (lines_of-last rest parts.1)
-    ∙ byte_before-last b rest
+-- bytes without an end are one line, where there are any, as if an end followed them
+pub lines_of-last : (b : ℕ) (rest : List ℕ) → IsTrue (has_no_end (b ∷ rest)) → lines_of (b ∷ rest) ≡ (b ∷ rest) ∷ []
+lines_of-last b [] h = else_of (b == 10) _ _ (no_end_parts b [] h).0
+lines_of-last b (c ∷ rest) h =
+    let parts = no_end_parts b (c ∷ rest) h in
+    else_of (b == 10) _ _ parts.0 ∙ ap (byte_before b) (lines_of-last c rest parts.1)
 
 -- ---- the lines that ended
 
@@ -114,23 +108,26 @@ all_append (x ∷ xs) ys h k =
 pub splits_none : Splits [] [] []
 splits_none = record { whole = refl; each = refl }
 
--- what follows the rest is split in its turn
-pub splits_more : (bytes piece rest last : List ℕ) (xs ys : List (List ℕ)) → Splits bytes xs rest →
-    Splits (rest ++ piece) ys last → Splits (bytes ++ piece) (xs ++ ys) last
-splits_more bytes piece rest last xs ys h k = record {
-  whole = ap (λ (v : List ℕ). v ++ piece) h.whole ∙ append_assoc (ended xs) rest piece
-      ∙ ap (λ (v : List ℕ). ended xs ++ v) k.whole ∙ sym (append_assoc (ended xs) (ended ys) last)
-      ∙ ap (λ (v : List ℕ). v ++ last) (sym (flat_map-append (λ l. l ++ 10 ∷ []) xs ys));
-  each = all_append xs ys h.each k.each;
+-- the rest goes on, and ends
+pub splits_end : (bytes rest l more : List ℕ) (lines : List (List ℕ)) → Splits bytes lines rest →
+    IsTrue (has_no_end rest) → IsTrue (has_no_end l) →
+    Splits (bytes ++ (l ++ 10 ∷ more)) (lines ++ (rest ++ l) ∷ []) more
+splits_end bytes rest l more lines h a b = record {
+  whole = ap (λ (v : List ℕ). v ++ (l ++ 10 ∷ more)) h.whole ∙ append_assoc (ended lines) rest (l ++ 10 ∷ more)
+      ∙ ap (λ (v : List ℕ). ended lines ++ v) (sym (append_assoc rest l (10 ∷ more)))
+      ∙ ap (λ (v : List ℕ). ended lines ++ v) (sym (next_line (rest ++ l) [] more))
+      ∙ sym (append_assoc (ended lines) (((rest ++ l) ++ 10 ∷ []) ++ []) more)
+      ∙ ap (λ (v : List ℕ). v ++ more) (sym (flat_map-append (λ l. l ++ 10 ∷ []) lines ((rest ++ l) ∷ [])));
+  each = all_append lines ((rest ++ l) ∷ []) h.each (and_from _ _ (no_end-append rest l a b) refl);
 }
 
--- bytes that no end follows yet are the rest
-pub splits_rest : (bytes : List ℕ) → Splits bytes [] bytes
-splits_rest bytes = record { whole = refl; each = refl }
-
--- the first line ends
-pub splits_line : (l rest : List ℕ) → IsTrue (has_no_end l) → Splits (l ++ 10 ∷ rest) (l ∷ []) rest
-splits_line l rest h = record { whole = sym (next_line l [] rest); each = and_from _ _ h refl }
+-- what follows is a part of the rest
+pub splits_rest : (bytes rest more : List ℕ) (lines : List (List ℕ)) → Splits bytes lines rest →
+    Splits (bytes ++ more) lines (rest ++ more)
+splits_rest bytes rest more lines h = record {
+  whole = ap (λ (v : List ℕ). v ++ more) h.whole ∙ append_assoc (ended lines) rest more;
+  each = h.each;
+}
 
 -- the lines of split bytes, and of what follows
 pub lines_of-split : (bytes rest more : List ℕ) (lines : List (List ℕ)) → Splits bytes lines rest →

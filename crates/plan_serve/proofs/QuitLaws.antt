@@ -2,17 +2,13 @@
 use Rattle.std.proofs.Common.{◌≡◌, refl, sym, ◌∙◌, ap, ℕ, ◌≤◌, ◌<◌, Bool, true, false, List, [], ◌∷◌, ◌++◌, append_assoc, length, take, arith}
 use Rattle.std.specs.Prelude.{IsTrue, nat_lt, nat_le, codes, ◌&&◌, ◌||◌, not, if◌then◌else◌, ◌==◌}
 use Rattle.std.specs.List.{list_all, list_any}
-use Rattle.std.proofs.lemmas.Bool.{and_parts, ltb-true, lt-ltb, false_from_ne_true, leb-true, le-leb, both_ways}
+use Rattle.std.proofs.lemmas.Bool.{and_parts, and_from, not-true, ltb-true, lt-ltb, false_from_ne_true, leb-true, le-leb, both_ways}
 use Rattle.std.proofs.lemmas.Slice.Eq.{bytes_eq-Decides}
 use Rattle.std.proofs.lemmas.List.{take_all, length-take-le}
-use Rattle.eon_model.specs.Services.{State}
-use Rattle.eon_model.specs.Legal.{Setup}
-use Rattle.eon_model.specs.Answers.{is_quit}
+use Rattle.eon_model.specs.LineStream.{is_quit}
 use Rattle.eon_model.specs.NetworkFault as network
 use Rattle.eon_model.specs.Modes.{stream_limit, is_long_stream}
-use Rattle.eon_model.specs.Later.{Told, state_told}
-use Rattle.plan_serve.specs.Lines.{has_no_end, quits_within, most_kept}
-use Rattle.plan_serve.specs.Session.{ended, Splits, TellsMarked}
+use Rattle.plan_serve.specs.Lines.{has_no_end, quits_within, most_kept, ended, Splits}
 use Rattle.plan_serve.proofs.LineLaws.{no_end_parts, no_text_more, no_lines_more}
 
 -- ---- one line
@@ -91,45 +87,51 @@ whole_split bytes rest more lines h =
 
 -- ---- whether one of them is `quit`
 
-any_behind : (xs ys : List (List ℕ)) (line : List ℕ) → is_quit line ≡ true →
-    list_any is_quit (xs ++ line ∷ ys) ≡ true
-any_behind [] ys line e = ap (λ (b : Bool). b || list_any is_quit ys) e
-any_behind (x ∷ xs) ys line e =
-    ap (λ (b : Bool). is_quit x || b) (any_behind xs ys line e) ∙ or_true (is_quit x)
+any_more : (xs ys : List (List ℕ)) → list_any is_quit xs ≡ true → list_any is_quit (xs ++ ys) ≡ true
+any_more [] ys e = cc
+any_more (x ∷ xs) ys e = by_first (is_quit x) (list_any is_quit xs) (list_any is_quit (xs ++ ys)) (any_more xs ys) e
+  where
+    by_first : (a b c : Bool) → (b ≡ true → c ≡ true) → (a || b) ≡ true → (a || c) ≡ true
+    by_first true b c f e = refl
+    by_first false b c f e = f e
+
+pub any_last : (xs : List (List ℕ)) (line : List ℕ) → is_quit line ≡ true → list_any is_quit (xs ++ line ∷ []) ≡ true
+any_last [] line e = ap (λ (b : Bool). b || false) e
+any_last (x ∷ xs) line e = ap (λ (b : Bool). is_quit x || b) (any_last xs line e) ∙ or_true (is_quit x)
   where
     or_true : (b : Bool) → (b || true) ≡ true
     or_true true = refl
     or_true false = refl
 
 -- a `quit` line among the lines that ended, whatever follows
-pub quits_among : (bytes rest more : List ℕ) (lines done others : List (List ℕ)) (line : List ℕ) →
-    Splits bytes lines rest → lines ≡ done ++ line ∷ others → is_quit line ≡ true →
-    quits_within (bytes ++ more) ≡ true
-quits_among bytes rest more lines done others line splits is quit =
-    let after = (network.whole_lines (rest ++ more)).0 in
-    ap (list_any is_quit) (whole_split bytes rest more lines splits
-    ∙ ap (λ (v : List (List ℕ)). v ++ after) is ∙ append_assoc done (line ∷ others) after)
-    ∙ any_behind done (others ++ after) line quit
+pub quits_among : (bytes rest more : List ℕ) (lines : List (List ℕ)) → Splits bytes lines rest →
+    list_any is_quit lines ≡ true → quits_within (bytes ++ more) ≡ true
+quits_among bytes rest more lines splits quits =
+    ap (list_any is_quit) (whole_split bytes rest more lines splits)
+    ∙ any_more lines (network.whole_lines (rest ++ more)).0 quits
 
-none_marked : (setup : Setup) (s : State) (lines : List (List ℕ)) (marks : List Bool) (told : List Told) →
-    TellsMarked setup s lines marks told → list_any is_quit lines ≡ false
-none_marked setup s [] marks told h = refl
-none_marked setup s (line ∷ lines) [] told h = absurd h
-none_marked setup s (line ∷ lines) (m ∷ marks) [] h = absurd h
-none_marked setup s (line ∷ lines) (m ∷ marks) (t ∷ told) h =
-    ap (λ (b : Bool). b || list_any is_quit lines) h.1
-    ∙ none_marked setup (state_told setup.network s t) lines marks told h.2
+none_any : (lines : List (List ℕ)) → list_all (λ line. not (is_quit line)) lines ≡ true → list_any is_quit lines ≡ false
+none_any [] h = refl
+none_any (line ∷ lines) h =
+    let parts = and_parts (not (is_quit line)) (list_all (λ line. not (is_quit line)) lines) h in
+    ap (λ (b : Bool). b || list_any is_quit lines) (not-true (is_quit line) parts.0) ∙ none_any lines parts.1
 
--- none among lines that are answered and go on
-pub no_quit_within : (setup : Setup) (s : State) (bytes rest : List ℕ) (lines : List (List ℕ)) (marks : List Bool)
-    (told : List Told) → Splits bytes lines rest → IsTrue (has_no_end rest) → TellsMarked setup s lines marks told →
-    quits_within bytes ≡ false
-no_quit_within setup s bytes rest lines marks told splits unended tells =
+pub none_last : (lines : List (List ℕ)) (line : List ℕ) → list_all (λ line. not (is_quit line)) lines ≡ true →
+    is_quit line ≡ false → list_all (λ line. not (is_quit line)) (lines ++ line ∷ []) ≡ true
+none_last [] line h e = ap (λ (b : Bool). not b && true) e
+none_last (x ∷ lines) line h e =
+    let parts = and_parts (not (is_quit x)) (list_all (λ line. not (is_quit line)) lines) h in
+    and_from _ _ parts.0 (none_last lines line parts.1 e)
+
+-- none among lines of which none is `quit`
+pub no_quit_within : (bytes rest : List ℕ) (lines : List (List ℕ)) → Splits bytes lines rest →
+    IsTrue (has_no_end rest) → list_all (λ line. not (is_quit line)) lines ≡ true → quits_within bytes ≡ false
+no_quit_within bytes rest lines splits unended none =
     ap quits_within (sym (no_text_more bytes))
     ∙ ap (list_any is_quit) (whole_split bytes rest [] lines splits
     ∙ ap (λ (v : List ℕ). lines ++ (network.whole_lines v).0) (no_text_more rest)
     ∙ ap (λ (v : List (List ℕ)). lines ++ v) (no_whole rest unended) ∙ no_lines_more lines)
-    ∙ none_marked setup s lines marks told tells
+    ∙ none_any lines none
 
 -- ---- the length of a stream
 

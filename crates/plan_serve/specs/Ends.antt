@@ -1,161 +1,229 @@
 -- What a call of the planner read and wrote, for each status with which it ends.
-use Rattle.std.specs.Prelude.{◌≡◌, ◌≢◌, ◌⊎◌, ℕ, ◌≤◌, ⊤, IsTrue, true, false, List, [], ◌∷◌, ◌++◌, length, take, Option, Some, None, All}
-use Rattle.std.specs.Option.{option_map_or}
+use Rattle.std.specs.Prelude.{◌≡◌, ◌≢◌, ◌⊎◌, ℕ, ◌+◌, ◌≤◌, ⊤, IsTrue, true, false, List, [], ◌∷◌, ◌++◌, length, take, Option, Some, None, IfSome, IsSomeAnd, All}
 use Rattle.std.specs.FinMap.{get}
 use Rattle.std.specs.Io.KnownBytes.{Appends, Keeps}
-use Rattle.eon_model.specs.Legal.{Setup, Legal}
-use Rattle.eon_model.specs.Modes.{Task, files_read, stream_limit, is_long_stream}
+use Rattle.eon_model.specs.Services.{State}
+use Rattle.eon_model.specs.Legal.{Setup}
+use Rattle.eon_model.specs.Events.{Event}
+use Rattle.eon_model.specs.Modes.{Task, stream_limit, is_long_stream}
 use Rattle.eon_model.specs.Modes.Task.{Dry}
+use Rattle.eon_model.specs.TopLines.{usage_line, network_fault_line, network_long_line}
 use Rattle.eon_model.specs.Answers.{takes_memory}
-use Rattle.eon_model.specs.Run.{lines_of, MissesOnly}
-use Rattle.eon_model.specs.Later.{RunsSoFar, BeginsRunSoFar}
+use Rattle.eon_model.specs.LineStream.{lines_of}
+use Rattle.eon_model.specs.Run.{Runs, BeginsRun, MissesOnly, states_of}
+use Rattle.eon_model.specs.Later.{AnswersSoFar, later_line}
+use Rattle.eon_model.specs.LawsOfRuns.{IsLegalAndSound}
+use Rattle.eon_outside.specs.Faults.{Standing, counted, with_fault}
+use Rattle.eon_outside.specs.Reading.{NamedFiles}
+use Rattle.eon_outside.specs.WholeFile.{IsFile}
 use Rattle.net_file.specs.Told.{why_told}
 use Rattle.plan_core.specs.Built.{is_built}
 use Rattle.plan_serve.specs.declared.status.Status.{Status}
 use Rattle.plan_serve.specs.declared.status.Status.TheVariants.{Done, Words, NetRefused, NetLong, ReadFault, Memory, WriteFault, InputLong, Later}
-use Rattle.eon_outside.specs.Reading.{NamedFiles}
-use Rattle.eon_outside.specs.WholeFile.{IsFile}
 use Rattle.plan_serve.specs.Files.{IsLeft, IsAcceptedFile, IsRefusedFile, IsLongFile}
-use Rattle.plan_serve.specs.Lines.{whole_lines, quits_within, states_told}
+use Rattle.plan_serve.specs.Lines.{whole_lines, quits_within, most_read}
+use Rattle.plan_serve.specs.Outside.{Outside, NoFault, NotRead}
 
--- ---- the words
+-- ---- runs
 
--- `Words` comes where the words ask for nothing, and `Later` where the mode is not built; want of memory is free
-abbrev pub AskedAt : Option Task → Status → Type 0
-AskedAt None status = (status ≡ Words) ⊎ (status ≡ Memory)
-AskedAt (Some (Dry net commands)) status = (status ≢ Words) × (status ≢ Later)
-AskedAt (Some _) status = (status ≡ Later) ⊎ (status ≡ Memory)
-
--- ---- a line beside the replies
-
--- The line was given whole, or only a front of it where writing failed.
-pub record GivesLine (before now : Option (List ℕ)) (line : List ℕ) (failed : Type 0) : Type 0 where
-  pub front : List ℕ
-  pub rest : List ℕ
-  pub is : front ++ rest ≡ line
-  pub given : Appends before now front
-  pub whole : rest ≢ [] → failed
-
--- ---- the network
-
--- which networks are refused, and which statuses come behind an accepted one alone
-abbrev pub NetworkAt : Option Task → Option NamedFiles → Status → Type 0
-NetworkAt (Some (Dry net commands)) files (NetRefused number why) = IsRefusedFile files net number (why_told why)
-NetworkAt (Some (Dry net commands)) files NetLong = IsLongFile files net
-NetworkAt (Some (Dry net commands)) files Done = (setup : Setup) × IsAcceptedFile files net setup
-NetworkAt (Some (Dry net commands)) files WriteFault = (setup : Setup) × IsAcceptedFile files net setup
-NetworkAt (Some (Dry net commands)) files InputLong = (setup : Setup) × IsAcceptedFile files net setup
-NetworkAt _ files _ = ⊤
-
--- ---- the replies
-
--- The bytes given grew by the output of a run over these bytes, in which each missed line is that of a command that
--- takes memory.
-pub record Serves (setup : Setup) (bytes : List ℕ) (before now : Option (List ℕ)) : Type 0 where
+-- The bytes given grew by the output of a run over these bytes, from this state on. Each missed line is that of a command
+-- that takes memory. Every state of the run is legal, and sound.
+pub record Serves (setup : Setup) (start : State) (bytes : List ℕ) (before now : Option (List ℕ)) : Type 0 where
   pub missed : List ℕ
   pub output : List ℕ
-  pub run : RunsSoFar setup is_built bytes missed output
+  pub changes : List Event
+  pub run : Runs (AnswersSoFar is_built) setup start None bytes missed output changes
   pub only : MissesOnly takes_memory missed 1 (lines_of bytes)
+  pub sound : All (IsLegalAndSound setup) (states_of setup start run.answers)
   pub given : Appends before now output
 
--- The bytes given grew by a front of the output of such a run.
-pub record Begins (setup : Setup) (bytes : List ℕ) (before now : Option (List ℕ)) : Type 0 where
+-- The bytes given grew by a front of the output of such a run. Its states up to there are legal, and sound.
+pub record Begins (setup : Setup) (start : State) (bytes : List ℕ) (before now : Option (List ℕ)) : Type 0 where
   pub missed : List ℕ
   pub part : List ℕ
-  pub run : BeginsRunSoFar setup is_built bytes missed part
+  pub run : BeginsRun (AnswersSoFar is_built) setup start None bytes missed part
   pub only : MissesOnly takes_memory missed 1 (lines_of bytes)
+  pub sound : All (IsLegalAndSound setup) (states_of setup start run.answers)
   pub given : Appends before now part
+
+-- a run over these bytes has this text in front of its output, and more behind it
+pub record GoesOnBehind (setup : Setup) (start : State) (bytes part : List ℕ) : Type 0 where
+  pub missed : List ℕ
+  pub rest : List ℕ
+  pub changes : List Event
+  pub more : rest ≢ []
+  pub run : Runs (AnswersSoFar is_built) setup start None bytes missed (part ++ rest) changes
+
+-- ---- streams
 
 -- Below, `IsStream` says which bytes the stream has, and `left` what is left of it at the end.
 
--- The stream was read to its end, or a `quit` line ended in what was read. Each of its lines was answered, up to `quit`.
-pub record AnswersAll (IsStream : List ℕ → Type 0) (setup : Setup) (left before now : Option (List ℕ))
+-- The stream was read to its end, or a `quit` line ended in what was read, in the last piece of it. Each of its lines was
+-- answered, up to `quit`.
+pub record AnswersAll (IsStream : List ℕ → Type 0) (setup : Setup) (start : State) (left before now : Option (List ℕ))
     : Type 0 where
   pub read : List ℕ
   pub rest : List ℕ
   pub told : IsStream (read ++ rest)
   pub unread : IsLeft left rest
   pub to_end : rest ≢ [] → IsTrue (quits_within read)
+  pub no_further : (front last : List ℕ) × (front ++ last ≡ read) × (length last ≤ most_read)
+      × (quits_within front ≡ false)
   pub short : is_long_stream (read ++ rest) ≡ false
-  pub serves : Serves setup (read ++ rest) before now
+  pub serves : Serves setup start (read ++ rest) before now
 
 -- The stream is too long. The lines that ended within its longest allowed front were answered.
-pub record StopsAtLong (IsStream : List ℕ → Type 0) (setup : Setup) (before now : Option (List ℕ)) : Type 0 where
+pub record StopsAtLong (IsStream : List ℕ → Type 0) (setup : Setup) (start : State) (before now : Option (List ℕ))
+    : Type 0 where
   pub stream : List ℕ
   pub told : IsStream stream
   pub long : is_long_stream stream ≡ true
-  pub serves : Serves setup (whole_lines (take stream_limit stream)) before now
-  pub begins : Begins setup stream before now
+  pub serves : Serves setup start (whole_lines (take stream_limit stream)) before now
+  pub begins : Begins setup start stream before now
 
--- Reading failed in the stream. The lines that ended in what was read before were answered.
-pub record StopsReading (IsStream : List ℕ → Type 0) (setup : Setup) (left before now : Option (List ℕ))
-    : Type 0 where
+-- Reading failed in the stream. No `quit` line ended in what was read before, and the lines that did were answered.
+pub record StopsReading (IsStream : List ℕ → Type 0) (setup : Setup) (start : State)
+    (left before now : Option (List ℕ)) : Type 0 where
   pub read : List ℕ
   pub rest : List ℕ
   pub told : IsStream (read ++ rest)
   pub unread : IsLeft left rest
   pub short : length read ≤ stream_limit
-  pub serves : Serves setup (whole_lines read) before now
-  pub begins : Begins setup (read ++ rest) before now
+  pub no_quit : quits_within read ≡ false
+  pub serves : Serves setup start (whole_lines read) before now
+  pub begins : Begins setup start (read ++ rest) before now
 
--- Writing failed.
-pub record StopsWriting (IsStream : List ℕ → Type 0) (setup : Setup) (before now : Option (List ℕ)) : Type 0 where
+-- Writing failed. Where the bytes given are told, they are not all of the output.
+pub record StopsWriting (IsStream : List ℕ → Type 0) (setup : Setup) (start : State) (before now : Option (List ℕ))
+    : Type 0 where
   pub stream : List ℕ
   pub told : IsStream stream
-  pub begins : Begins setup stream before now
+  pub begins : Begins setup start stream before now
+  pub early : IfSome before (λ _. GoesOnBehind setup start stream begins.part)
+
+-- how the answers to a stream end
+abbrev pub AnswersStream : (List ℕ → Type 0) → Setup → State → Option (List ℕ) → Option (List ℕ) → Option (List ℕ)
+    → Status → Type 0
+AnswersStream IsStream setup start left before now Done = AnswersAll IsStream setup start left before now
+AnswersStream IsStream setup start left before now ReadFault = StopsReading IsStream setup start left before now
+AnswersStream IsStream setup start left before now WriteFault = StopsWriting IsStream setup start before now
+AnswersStream IsStream setup start left before now InputLong = StopsAtLong IsStream setup start before now
+AnswersStream IsStream setup start left before now _ = ⊥
+
+-- how many calls failed in it: one of the shelf at `ReadFault`
+abbrev pub CountsReads : Status → ℕ → ℕ → Type 0
+CountsReads ReadFault before now = now ≡ counted before
+CountsReads _ before now = now ≡ before
+
+-- and one of the sink at `WriteFault`
+abbrev pub StandsAt : Status → Standing → Standing → Type 0
+StandsAt WriteFault before now = now ≡ with_fault before
+StandsAt _ before now = now ≡ before
+
+-- ---- a line beside the replies
+
+-- The line was given whole and no write failed, or one did, and only a front of it was given.
+pub record GivesLine (line : List ℕ) (before now : Option (List ℕ)) (old new : ℕ) : Type 0 where
+  pub front : List ℕ
+  pub rest : List ℕ
+  pub is : front ++ rest ≡ line
+  pub given : Appends before now front
+  pub counts : ((rest ≡ []) × (new ≡ old)) ⊎ ((rest ≢ []) × (new ≡ counted old))
+
+-- nothing was given but this line
+abbrev pub Says : List ℕ → Outside → Outside → Type 0
+Says line before now = GivesLine line before.given now.given before.write_faults now.write_faults
+
+-- ---- `dry`
 
 -- the file of this name is the text of a network, and so it went over that network
 abbrev pub OverNetwork : Option NamedFiles → List ℕ → (Setup → Type 0) → Type 0
 OverNetwork files net P = (setup : Setup) × IsAcceptedFile files net setup × P setup
 
+-- how the answers to the stream end over a setup, with no service at first
+abbrev pub DryStream : List ℕ → Outside → Outside → Status → Setup → Type 0
+DryStream commands before now status setup =
+    AnswersStream (IsFile before.files commands) setup [] now.left before.given now.given status
+
 -- Where reading failed: in the network, at the opening of the stream, or in the stream.
-pub data FaultsReading (files : Option NamedFiles) (net commands : List ℕ) (old new : List (List ℕ))
-    (left before now : Option (List ℕ)) : Type 0 where
-  AtNetwork : new ≡ old ++ net ∷ [] → Keeps before now
-      → FaultsReading files net commands old new left before now
-  AtOpening : (setup : Setup) → new ≡ old ++ net ∷ commands ∷ [] → IsAcceptedFile files net setup
-      → IsLeft left [] → Keeps before now → FaultsReading files net commands old new left before now
-  InStream : new ≡ old ++ net ∷ commands ∷ []
-      → OverNetwork files net (λ setup. StopsReading (IsFile files commands) setup left before now)
-      → FaultsReading files net commands old new left before now
+pub data FaultsReading (net commands : List ℕ) (before now : Outside) : Type 0 where
+  AtNetwork : now.opened ≡ before.opened ++ net ∷ [] → Keeps before.given now.given
+      → FaultsReading net commands before now
+  AtOpening : (setup : Setup) → now.opened ≡ before.opened ++ net ∷ commands ∷ []
+      → IsAcceptedFile before.files net setup → IsLeft now.left [] → Keeps before.given now.given
+      → FaultsReading net commands before now
+  InStream : now.opened ≡ before.opened ++ net ∷ commands ∷ []
+      → OverNetwork before.files net (DryStream commands before now ReadFault)
+      → FaultsReading net commands before now
 
--- What was read, and given besides the line of a refusal. `old` and `new` are the names that were opened
--- before and are now, `left` is what is left of the open file, `before` and `now` are the bytes given.
-abbrev pub RepliesAt : Option Task → Option NamedFiles → List (List ℕ) → List (List ℕ) → Option (List ℕ)
-    → Option (List ℕ) → Option (List ℕ) → Status → Type 0
-RepliesAt task files old new left before now Memory = Keeps before now
-RepliesAt (Some (Dry net commands)) files old new left before now Done =
-    OverNetwork files net (λ setup. AnswersAll (IsFile files commands) setup left before now)
-RepliesAt (Some (Dry net commands)) files old new left before now ReadFault =
-    FaultsReading files net commands old new left before now
-RepliesAt (Some (Dry net commands)) files old new left before now WriteFault =
-    OverNetwork files net (λ setup. StopsWriting (IsFile files commands) setup before now)
-RepliesAt (Some (Dry net commands)) files old new left before now InputLong =
-    OverNetwork files net (λ setup. StopsAtLong (IsFile files commands) setup before now)
-RepliesAt task files old new left before now status = ⊤
+-- the answers to a stream over this setup: which file was opened, and how many calls failed
+abbrev pub StreamEnds : Setup → List ℕ → Outside → Outside → Status → Type 0
+StreamEnds setup commands before now Memory =
+    (now.opened ≡ before.opened) × NoFault before now × Keeps before.given now.given
+StreamEnds setup commands before now ReadFault =
+    (now.opened ≡ before.opened ++ commands ∷ []) × (now.read_faults ≡ counted before.read_faults)
+    × (now.write_faults ≡ before.write_faults)
+    × ((IsLeft now.left [] × Keeps before.given now.given) ⊎ DryStream commands before now ReadFault setup)
+StreamEnds setup commands before now WriteFault =
+    (now.opened ≡ before.opened ++ commands ∷ []) × (now.read_faults ≡ before.read_faults)
+    × (now.write_faults ≡ counted before.write_faults) × DryStream commands before now WriteFault setup
+StreamEnds setup commands before now status =
+    (now.opened ≡ before.opened ++ commands ∷ []) × NoFault before now × DryStream commands before now status setup
 
--- ---- the states
+-- `dry NET COMMANDS`: which files were opened, what was read and given, and how many calls failed
+abbrev pub DryEnds : List ℕ → List ℕ → Outside → Outside → Status → Type 0
+DryEnds net commands before now Done =
+    (now.opened ≡ before.opened ++ net ∷ commands ∷ []) × NoFault before now
+    × OverNetwork before.files net (DryStream commands before now Done)
+DryEnds net commands before now InputLong =
+    (now.opened ≡ before.opened ++ net ∷ commands ∷ []) × NoFault before now
+    × OverNetwork before.files net (DryStream commands before now InputLong)
+DryEnds net commands before now WriteFault =
+    (now.opened ≡ before.opened ++ net ∷ commands ∷ []) × (now.read_faults ≡ before.read_faults)
+    × (now.write_faults ≡ counted before.write_faults)
+    × OverNetwork before.files net (DryStream commands before now WriteFault)
+DryEnds net commands before now ReadFault =
+    (now.read_faults ≡ counted before.read_faults) × (now.write_faults ≡ before.write_faults)
+    × FaultsReading net commands before now
+DryEnds net commands before now (NetRefused number why) =
+    (now.opened ≡ before.opened ++ net ∷ []) × (now.read_faults ≡ before.read_faults)
+    × IsRefusedFile before.files net number (why_told why)
+    × Says (network_fault_line number (why_told why)) before now
+DryEnds net commands before now NetLong =
+    (now.opened ≡ before.opened ++ net ∷ []) × (now.read_faults ≡ before.read_faults)
+    × IsLongFile before.files net × Says network_long_line before now
+DryEnds net commands before now Memory =
+    ((now.opened ≡ before.opened) ⊎ (now.opened ≡ before.opened ++ net ∷ [])) × NoFault before now
+    × Keeps before.given now.given
+DryEnds net commands before now _ = ⊥
 
--- every state of every run over the network is legal
-abbrev pub StatesAt : Option Task → Option NamedFiles → Type 0
-StatesAt (Some (Dry net commands)) files =
-    (setup : Setup) (bytes missed output : List ℕ) → IsAcceptedFile files net setup
-    → (run : RunsSoFar setup is_built bytes missed output)
-    → All (Legal setup) (states_told setup.network [] run.told)
-StatesAt task files = ⊤
+-- ---- the whole call
 
--- ---- the files that were opened
+-- nothing was done but to write this line
+abbrev pub SaysOnly : List ℕ → Outside → Outside → Type 0
+SaysOnly line before now = NotRead before now × Says line before now
 
--- the files of what is asked for, in the order in which they are read
-abbrev pub files_asked : Option Task → List (List ℕ)
-files_asked task = option_map_or files_read task []
+-- there was no memory before anything was done
+abbrev pub DoesNothing : Outside → Outside → Type 0
+DoesNothing before now =
+    NotRead before now × (now.write_faults ≡ before.write_faults) × Keeps before.given now.given
 
--- a front of these files was opened, in their order: all of them at `Done`, and none at `Words` and `Later`
-abbrev pub OpenedAt : List (List ℕ) → List (List ℕ) → List (List ℕ) → Status → Type 0
-OpenedAt files old new Words = new ≡ old
-OpenedAt files old new Later = new ≡ old
-OpenedAt files old new Done = new ≡ old ++ files
-OpenedAt files old new _ = (n : ℕ) × (new ≡ old ++ take n files)
+-- How a call ends, by what the words ask for: the usage line where they ask for nothing, and `later` for a mode that is
+-- not built.
+abbrev pub Ends : Option Task → Outside → Outside → Status → Type 0
+Ends (Some (Dry net commands)) before now status = DryEnds net commands before now status
+Ends None before now Words = SaysOnly usage_line before now
+Ends None before now Memory = DoesNothing before now
+Ends None before now _ = ⊥
+Ends (Some _) before now Later = SaysOnly later_line before now
+Ends (Some _) before now Memory = DoesNothing before now
+Ends (Some _) before now _ = ⊥
+
+-- `Words` comes where the words ask for nothing, and `Later` where the mode is not built; want of memory is free
+abbrev pub AskedAt : Option Task → Status → Type 0
+AskedAt None status = (status ≡ Words) ⊎ (status ≡ Memory)
+AskedAt (Some (Dry net commands)) status = (status ≢ Words) × (status ≢ Later)
+AskedAt (Some _) status = (status ≡ Later) ⊎ (status ≡ Memory)
 
 -- ---- when nothing is in the way
 
@@ -171,3 +239,12 @@ pub record MayServe (told : NamedFiles) (net commands : List ℕ) : Type 0 where
 abbrev pub MayEnd : Option Task → Option NamedFiles → Type 0
 MayEnd (Some (Dry net commands)) (Some told) = MayServe told net commands
 MayEnd task files = ⊥
+
+-- the sink is sure of room for the output of every run over these files, behind what it was given
+abbrev pub IsRoomy : Option Task → Option NamedFiles → Option (List ℕ) → Standing → Type 0
+IsRoomy (Some (Dry net commands)) files given standing =
+    IsSomeAnd given (λ bytes. (setup : Setup) (stream missed output : List ℕ) (changes : List Event)
+    → IsAcceptedFile files net setup → IsFile files commands stream
+    → Runs (AnswersSoFar is_built) setup [] None stream missed output changes
+    → IsSomeAnd standing.room (λ room. length bytes + length output ≤ room))
+IsRoomy task files given standing = ⊤

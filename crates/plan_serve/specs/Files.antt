@@ -1,9 +1,13 @@
 -- What the files say, where they are told.
-use Rattle.std.specs.Prelude.{◌≡◌, ℕ, ◌<◌, ◌≤◌, ⊤, List, length, Option, Some, None}
+use Rattle.std.specs.Prelude.{◌≡◌, ℕ, ◌<◌, ◌≤◌, ⊤, List, length, Option, Some, None, Result, Ok, Err}
 use Rattle.eon_model.specs.Legal.{Setup}
 use Rattle.eon_model.specs.NetworkText.{IsNetworkTextOf}
 use Rattle.eon_model.specs.NetworkFault.{Why, network_fault}
 use Rattle.eon_model.specs.Modes.{network_limit}
+use Rattle.net_file.specs.Told.{why_told}
+use Rattle.plan_serve.specs.declared.status.Status.{Status}
+use Rattle.plan_serve.specs.declared.status.Status.TheVariants.{NetRefused, NetLong, ReadFault, Memory}
+use Rattle.eon_outside.specs.Faults.{counted}
 use Rattle.eon_outside.specs.Reading.{NamedFiles}
 use Rattle.eon_outside.specs.WholeFile.{IsFile}
 
@@ -32,3 +36,14 @@ pub record IsRefusedFile (files : Option NamedFiles) (name : List ℕ) (number :
 -- the file of this name is too long
 abbrev pub IsLongFile : Option NamedFiles → List ℕ → Type 0
 IsLongFile files name = (bytes : List ℕ) × IsFile files name bytes × (network_limit < length bytes)
+
+-- What came of reading the network of this name, and the count of faults before and after: its setup, or the status with
+-- which the call ends.
+abbrev pub ReadsNetwork : Option NamedFiles → List ℕ → ℕ → ℕ → Result Setup Status → Type 0
+ReadsNetwork files name before now (Ok setup) = (now ≡ before) × IsAcceptedFile files name setup
+ReadsNetwork files name before now (Err (NetRefused number why)) =
+    (now ≡ before) × IsRefusedFile files name number (why_told why)
+ReadsNetwork files name before now (Err NetLong) = (now ≡ before) × IsLongFile files name
+ReadsNetwork files name before now (Err Memory) = now ≡ before
+ReadsNetwork files name before now (Err ReadFault) = now ≡ counted before
+ReadsNetwork files name before now (Err _) = ⊥

@@ -1,8 +1,7 @@
 pub mod Answering
 pub mod Ends
 pub mod Files
-pub mod Gathering
 pub mod Lines
-pub mod Parts
+pub mod Outside
 pub mod Session
 pub mod Status

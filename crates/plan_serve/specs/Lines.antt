@@ -1,11 +1,8 @@
--- The lines of a stream that ended, and the states of a run.
-use Rattle.std.specs.Prelude.{ℕ, ◌==◌, Bool, not, List, [], ◌∷◌, if◌then◌else◌}
-use Rattle.std.specs.List.{list_all, list_any}
-use Rattle.eon_model.specs.Network.{Network}
-use Rattle.eon_model.specs.Services.{State}
-use Rattle.eon_model.specs.Answers.{is_quit}
+-- The lines of a stream that ended.
+use Rattle.std.specs.Prelude.{◌≡◌, ℕ, ◌==◌, Bool, not, IsTrue, List, [], ◌∷◌, ◌++◌, if◌then◌else◌}
+use Rattle.std.specs.List.{list_all, list_any, flat_map}
+use Rattle.eon_model.specs.LineStream.{is_quit}
 use Rattle.eon_model.specs.NetworkFault as network
-use Rattle.eon_model.specs.Later.{Told, state_told}
 
 abbrev pub before_some : ℕ → List ℕ → List ℕ
 before_some b [] = []
@@ -27,7 +24,15 @@ quits_within bytes = list_any is_quit (network.whole_lines bytes).0
 abbrev pub most_kept : ℕ
 most_kept = 4097
 
--- the state before the first of these answers, and the state after each
-abbrev pub states_told : Network → State → List Told → List State
-states_told net state [] = state ∷ []
-states_told net state (t ∷ later) = state ∷ states_told net (state_told net state t) later
+-- how many bytes of a stream are read at a time
+abbrev pub most_read : ℕ
+most_read = 65536
+
+-- the lines, each with its byte 10
+abbrev pub ended : List (List ℕ) → List ℕ
+ended lines = flat_map (λ l. l ++ 10 ∷ []) lines
+
+-- The bytes are these lines, each with its byte 10, and a rest.
+pub record Splits (bytes : List ℕ) (lines : List (List ℕ)) (rest : List ℕ) : Type 0 where
+  pub whole : bytes ≡ ended lines ++ rest
+  pub each : IsTrue (list_all has_no_end lines)

@@ -1,6 +1,6 @@
 -- The code with which the program ends, and the line that is written beside the replies.
-use Rattle.std.specs.Prelude.{ℕ, List, Option, Some, None}
-use Rattle.std.specs.Option.{option_map_or}
+use Rattle.std.specs.Prelude.{ℕ, List, [], Option, Some, None}
+use Rattle.std.specs.Option.{option_map_or, unwrap_or}
 use Rattle.eon_model.specs.Modes as modes
 use Rattle.eon_model.specs.Later.{later_line}
 use Rattle.net_file.specs.Told.{why_told}
@@ -26,3 +26,7 @@ code_of status = option_map_or modes.status_code (status_told status) 9
 -- the one line that a refusal writes, if it writes one
 abbrev pub line_of : Status → Option (List ℕ)
 line_of status = option_map_or modes.status_line (status_told status) (Some later_line)
+
+-- its bytes, none where it writes no line
+abbrev pub own_line : Status → List ℕ
+own_line status = unwrap_or (line_of status) []

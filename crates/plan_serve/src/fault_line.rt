@@ -5,7 +5,7 @@ ghost use Rattle.net_file.specs.Told.{why_told};
 
 use arrayvec::ArrayVec;
 use eon_base::number::digits;
-use net_file::{NetFault, Why};
+use net_file::Why;
 use std::marker::Model;
 
 /// The most bytes of such a line.
@@ -46,17 +46,17 @@ fn word_of(why: Why) -> &'static str
 }
 
 impl FaultLine {
-    /// The line of this fault.
-    pub(crate) fn of(fault: &NetFault) -> FaultLine
-        ensures { result ≡ network_fault_line fault.now.line (why_told fault.now.why) }
+    /// The line of this first fault.
+    pub(crate) fn of(number: u32, why: Why) -> FaultLine
+        ensures { result ≡ network_fault_line number (why_told why) }
     {
         let mut line = FaultLine {
             bytes: ArrayVec::new(),
         };
         line.append(b"net ");
-        line.append(digits(u64::from(fault.line)).bytes());
+        line.append(digits(u64::from(number)).bytes());
         line.append(b" ");
-        line.append(word_of(fault.why).as_bytes());
+        line.append(word_of(why).as_bytes());
         line.append(b"\n");
         line
     }

@@ -5,7 +5,6 @@
 
 mod answering;
 mod fault_line;
-mod gathered;
 mod session;
 pub mod status;
 pub mod top;

@@ -1,14 +1,13 @@
 //! A run over a stream of command lines, which comes in pieces.
-ghost use Rattle.std.specs.Prelude.{◌≡◌, ℕ, ◌+◌, ◌∷◌, ◌++◌, ◌<◌, ◌≤◌, List, [], IfOk, IfSome, IsNone, IsTrue, OnOk, length, take, drop, vec_len, vec_capacity};
-ghost use Rattle.eon_outside.specs.Faults.{Rose, HasCause};
-ghost use Rattle.plan_serve.specs.Lines.{has_no_end, most_kept};
+ghost use Rattle.std.specs.Prelude.{◌≡◌, ◌≢◌, ℕ, ◌+◌, ◌∷◌, ◌++◌, ◌<◌, ◌≤◌, List, [], Option, IfOk, IfSome, IsNone, IsTrue, OnOk, length, take, drop, vec_len, vec_capacity};
+ghost use Rattle.eon_outside.specs.Faults.{Stands};
+ghost use Rattle.eon_outside.specs.Held.{standing_over, given_since};
+ghost use Rattle.plan_serve.specs.Lines.{has_no_end, most_kept, most_read};
 
 use crate::answering::{Flow, answer};
-use crate::gathered::Gathered;
 use crate::status::Status;
-use eon_outside::{Failed, Shelf, Sink};
+use eon_outside::{Buffered, Failed, Shelf, Sink, Start};
 use memchr::memchr;
-use net_setup::NetSetup;
 use plan_core::Core;
 use std::alloc::{AllocError, Global};
 
@@ -27,45 +26,38 @@ fn end_of_line(bytes: &[u8]) -> Option<usize>
     memchr(b'\n', bytes)
 }
 
-/// The machine, the first bytes of the line that has begun, and the replies that are held back.
+/// The machine, and the first bytes of the line that has begun.
 #[derive(Drop)]
 pub(crate) struct Session {
     core: Core,
     begun: Vec<u8>,
-    replies: Gathered,
     ghost room: { most_kept ≤ vec_capacity begun },
     ghost within: { vec_len begun ≤ most_kept },
 }
 
 impl Session {
+    ghost use Rattle.eon_model.specs.Services.{State};
+    ghost use Rattle.eon_model.specs.Legal.{Legal};
     ghost use Rattle.eon_model.specs.NetworkText.{is_setup};
     ghost use Rattle.plan_serve.specs.Answering.{AnswersLine};
-    ghost use Rattle.plan_serve.specs.Gathering.{output};
-    ghost use Rattle.plan_serve.specs.Session.{FinishesAt, Feeds, ServedAt};
+    ghost use Rattle.plan_serve.specs.Files.{IsLeft};
+    ghost use Rattle.plan_serve.specs.Session.{Goes, Feeds, FinishesAt};
+    ghost use Rattle.plan_serve.specs.Ends.{AnswersStream, CountsReads, StandsAt};
 
-    /// No service, no line yet, and room for so many bytes of replies.
-    pub(crate) fn open(alloc: Global, setup: NetSetup, room: usize) -> Result<Session, AllocError>
-        requires { IsTrue (is_setup setup) }
-        ensures setup { IfOk result (λ s. s.core.setup ≡ setup) }
-        ensures state { IfOk result (λ s. s.core.state ≡ []) }
+    /// The machine at the begin of a stream.
+    pub(crate) fn open(alloc: Global, core: Core) -> Result<Session, AllocError>
+        ensures setup { IfOk result (λ s. s.core.setup ≡ core.setup) }
+        ensures state { IfOk result (λ s. s.core.state ≡ core.state) }
         ensures begun { IfOk result (λ s. s.begun.items ≡ []) }
-        ensures replies { IfOk result (λ s. s.replies ≡ []) }
     {
-        let core = Core::open(alloc, setup)?;
         let begun = Vec::with_capacity(alloc, MOST_KEPT)?;
-        let replies = Gathered::with_room(alloc, room)?;
-        Ok(Session {
-            core,
-            begun,
-            replies,
-        })
+        Ok(Session { core, begun })
     }
 
     /// Keeps what there is room for of a part of a line.
     fn keep(&mut self, part: &[u8])
         ensures begun { self.new.begun.items ≡ take most_kept (self.old.begun.items ++ part.now) }
         ensures core { self.new.core ≡ self.old.core }
-        ensures replies { self.new.replies ≡ self.old.replies }
     {
         let free = MOST_KEPT - self.begun.len();
         let kept = free.min(part.len());
@@ -79,24 +71,24 @@ impl Session {
     fn end_line<K: Sink>(&mut self, part: &[u8], out: &mut K) -> Result<Flow, Failed>
         ensures setup { self.new.core.setup ≡ self.old.core.setup }
         ensures begun { self.new.begun.items ≡ [] }
-        ensures told { (fragment : List ℕ) → self.old.begun.items ≡ take most_kept fragment → AnswersLine self.old.core.setup self.old.core.state self.new.core.state (fragment ++ part.now) (output (K.given out.old) self.old.replies) (output (K.given out.new) self.new.replies) result }
-        ensures cause { HasCause (K.faults out.old) (K.faults out.new) result }
+        ensures told { (fragment : List ℕ) → self.old.begun.items ≡ take most_kept fragment → AnswersLine self.old.core.setup self.old.core.state self.new.core.state (fragment ++ part.now) (K.given out.old) (K.given out.new) result }
+        ensures stands { Stands (K.standing out.old) (K.standing out.new) result }
     {
         if self.begun.is_empty() {
-            return answer(&mut self.core, part, &mut self.replies, out);
+            return answer(&mut self.core, part, out);
         }
         self.keep(part);
-        let line = self.begun.as_slice();
-        let answered = answer(&mut self.core, line, &mut self.replies, out);
+        let answered = answer(&mut self.core, self.begun.as_slice(), out);
         self.begun.clear();
         answered
     }
 
-    /// Answers each line that ends in the piece, up to `quit`, and keeps what stands behind the last end.
+    /// Answers the lines that end in this piece, up to `quit`, and keeps the begin of the line behind them.
     fn answer_lines<K: Sink>(&mut self, piece: &[u8], out: &mut K) -> Result<Flow, Failed>
         ensures setup { self.new.core.setup ≡ self.old.core.setup }
-        ensures fed { (fragment : List ℕ) → IsTrue (has_no_end fragment) → self.old.begun.items ≡ take most_kept fragment → Feeds self.old.core.setup self.old.core.state self.new.core.state self.new.begun.items (fragment ++ piece.now) (output (K.given out.old) self.old.replies) (output (K.given out.new) self.new.replies) result }
-        ensures cause { HasCause (K.faults out.old) (K.faults out.new) result }
+        ensures fed { (start : State) (before : Option (List ℕ)) (bytes : List ℕ) → Goes self.old.core.setup start before self.old.core.state self.old.begun.items bytes (K.given out.old)
+            → Feeds self.old.core.setup start before self.new.core.state self.new.begun.items (bytes ++ piece.now) [] (K.given out.new) result }
+        ensures stands { Stands (K.standing out.old) (K.standing out.new) result }
     {
         let mut rest = piece;
         while let Some(at) = end_of_line(rest) {
@@ -110,16 +102,20 @@ impl Session {
         Ok(Flow::On)
     }
 
-    /// The same, and then gives all replies to the sink.
-    fn feed<K: Sink>(&mut self, piece: &[u8], out: &mut K) -> Result<Flow, Failed>
-        requires none_held { self.old.replies ≡ [] }
+    /// The same, and then gives all replies to the sink below.
+    fn feed<K: Sink, S: Start>(
+        &mut self,
+        piece: &[u8],
+        out: &mut Buffered<'_, K, S>,
+    ) -> Result<Flow, Failed>
         ensures setup { self.new.core.setup ≡ self.old.core.setup }
-        ensures none_held { OnOk result (self.new.replies ≡ []) }
-        ensures fed { (fragment : List ℕ) → IsTrue (has_no_end fragment) → self.old.begun.items ≡ take most_kept fragment → Feeds self.old.core.setup self.old.core.state self.new.core.state self.new.begun.items (fragment ++ piece.now) (output (K.given out.old) []) (output (K.given out.new) []) result }
-        ensures cause { HasCause (K.faults out.old) (K.faults out.new) result }
+        ensures none_held { OnOk result (out.new.held.now.items ≡ []) }
+        ensures fed { (start : State) (before : Option (List ℕ)) (bytes : List ℕ) → Goes self.old.core.setup start before self.old.core.state self.old.begun.items bytes (given_since S.bytes (K.given out.old.out.now) out.old.held.now.items)
+            → Feeds self.old.core.setup start before self.new.core.state self.new.begun.items (bytes ++ piece.now) out.new.held.now.items (given_since S.bytes (K.given out.new.out.now) out.new.held.now.items) result }
+        ensures stands { Stands (standing_over out.old.out.ghost_name (K.standing out.old.out.now)) (standing_over out.new.out.ghost_name (K.standing out.new.out.now)) result }
     {
         match self.answer_lines(piece, out) {
-            Ok(flow) => match self.replies.give_to(out) {
+            Ok(flow) => match out.flush() {
                 Ok(()) => Ok(flow),
                 Err(Failed) => Err(Failed),
             },
@@ -127,44 +123,46 @@ impl Session {
         }
     }
 
-    /// Answers what stands behind the last end, where there is something, and gives the reply to the sink.
-    fn finish<K: Sink>(&mut self, out: &mut K) -> Status
-        requires none_held { self.old.replies ≡ [] }
-        ensures ended { (fragment : List ℕ) → IsTrue (has_no_end fragment) → self.old.begun.items ≡ take most_kept fragment → FinishesAt self.old.core.setup self.old.core.state self.new.core.state fragment (output (K.given out.old) []) (output (K.given out.new) []) result }
-        ensures cause { result ≡ Status.WriteFault → Rose (K.faults out.old) (K.faults out.new) }
-        ensures later { K.faults out.old ≤ K.faults out.new }
+    /// Answers what stands behind the last end, where there is something, as if it ended there.
+    fn finish<K: Sink, S: Start>(&mut self, out: &mut Buffered<'_, K, S>) -> Status
+        requires none_held { out.old.held.now.items ≡ [] }
+        ensures setup { self.new.core.setup ≡ self.old.core.setup }
+        ensures ended { (start : State) (before : Option (List ℕ)) (bytes : List ℕ) → Goes self.old.core.setup start before self.old.core.state self.old.begun.items bytes (given_since S.bytes (K.given out.old.out.now) out.old.held.now.items)
+            → FinishesAt self.old.core.setup start before self.new.core.state self.old.begun.items bytes out.new.held.now.items (given_since S.bytes (K.given out.new.out.now) out.new.held.now.items) result }
+        ensures stands { StandsAt result (standing_over out.old.out.ghost_name (K.standing out.old.out.now)) (standing_over out.new.out.ghost_name (K.standing out.new.out.now)) }
+        ensures none_held { result ≡ Status.Done → out.new.held.now.items ≡ [] }
+        ensures no_read { result ≢ Status.ReadFault }
     {
         if self.begun.is_empty() {
             return Status::Done;
         }
-        let line = self.begun.as_slice();
-        match answer(&mut self.core, line, &mut self.replies, out) {
-            Ok(_) => match self.replies.give_to(out) {
-                Ok(()) => Status::Done,
-                Err(Failed) => Status::WriteFault,
-            },
+        match self.feed(b"\n", out) {
+            Ok(_) => Status::Done,
             Err(Failed) => Status::WriteFault,
         }
     }
 
     /// Answers each line that is left of the open file, up to `quit`. The buffer holds what is read at a time.
-    pub(crate) fn serve<H: Shelf, K: Sink>(
+    pub(crate) fn answer_stream<H: Shelf, K: Sink, S: Start>(
         &mut self,
         shelf: &mut H,
         buffer: &mut [u8],
-        out: &mut K,
+        out: &mut Buffered<'_, K, S>,
     ) -> Status
         requires some_room { 0 < length buffer.old }
-        requires at_start { self.old.core.state ≡ [] }
+        requires few { length buffer.old ≤ most_read }
         requires none_begun { self.old.begun.items ≡ [] }
-        requires none_held { self.old.replies ≡ [] }
+        requires none_held { out.old.held.now.items ≡ [] }
+        requires from { S.bytes ≡ K.given out.old.out.now }
         requires in_range { IsTrue (is_setup self.old.core.setup) }
-        ensures served { ServedAt self.old.core.setup (H.left shelf.old) (H.left shelf.new) (K.given out.old) (K.given out.new) result }
+        requires legal { Legal self.old.core.setup self.old.core.state }
+        ensures sink { out.new.out.ghost_name ≡ out.old.out.ghost_name }
+        ensures answered { AnswersStream (IsLeft (H.left shelf.old)) self.old.core.setup self.old.core.state (H.left shelf.new) (K.given out.old.out.now) (K.given out.new.out.now) result }
         ensures files { H.files shelf.new ≡ H.files shelf.old }
         ensures opened { H.opened shelf.new ≡ H.opened shelf.old }
-        ensures read_fault { result ≡ Status.ReadFault → Rose (H.faults shelf.old) (H.faults shelf.new) }
-        ensures write_fault { result ≡ Status.WriteFault → Rose (K.faults out.old) (K.faults out.new) }
-        ensures counts { (H.faults shelf.old ≤ H.faults shelf.new) × (K.faults out.old ≤ K.faults out.new) }
+        ensures reads { CountsReads result (H.faults shelf.old) (H.faults shelf.new) }
+        ensures stands { StandsAt result (K.standing out.old.out.now) (K.standing out.new.out.now) }
+        ensures calm { IsTrue (H.calm shelf.old) → result ≢ Status.ReadFault }
     {
         let mut taken: usize = 0;
         loop {
@@ -176,15 +174,13 @@ impl Session {
                 return self.finish(out);
             }
             let allowed = LONGEST_STREAM - taken;
-            if allowed < count {
-                return match self.feed(&buffer[..allowed], out) {
-                    Ok(Flow::On) => Status::InputLong,
-                    Ok(Flow::Ended) => Status::Done,
-                    Err(Failed) => Status::WriteFault,
-                };
-            }
-            match self.feed(&buffer[..count], out) {
-                Ok(Flow::On) => taken += count,
+            match self.feed(&buffer[..count.min(allowed)], out) {
+                Ok(Flow::On) => {
+                    if allowed < count {
+                        return Status::InputLong;
+                    }
+                    taken += count;
+                }
                 Ok(Flow::Ended) => return Status::Done,
                 Err(Failed) => return Status::WriteFault,
             }

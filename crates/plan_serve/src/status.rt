@@ -1,7 +1,22 @@
 //! How a call of the planner ended.
-ghost use Rattle.std.specs.Prelude.{◌≡◌};
+ghost use Rattle.std.specs.Prelude.{◌≡◌, OnOk, OnErr};
+ghost use Rattle.std.specs.Io.KnownBytes.{Appends};
+ghost use Rattle.eon_outside.specs.Faults.{Stands};
+ghost use Rattle.eon_outside.specs.Writing.{AppendsPart};
 
+use crate::fault_line::FaultLine;
+use eon_outside::{Failed, Sink, write_all};
 use net_file::Why;
+
+/// How the program is called.
+const USAGE: &str =
+    "usage: eonplan dry NET COMMANDS | init NET JOURNAL | serve NET JOURNAL COMMANDS | replay NET JOURNAL | drive NET SEED COUNT | migrate NET NEXT JOURNAL | live NET JOURNAL COMMANDS | room NET JOURNAL COMMANDS\n";
+
+/// What is written for a mode that is not built yet.
+const LATER: &str = "later\n";
+
+/// What is written of a network that is too long.
+const NET_LONG: &str = "net long\n";
 
 /// How a call of the planner ended.
 #[derive(Clone, Copy, Debug, PartialEq, Eq)]
@@ -27,7 +42,7 @@ pub enum Status {
 }
 
 impl Status {
-    ghost use Rattle.plan_serve.specs.Status.{code_of};
+    ghost use Rattle.plan_serve.specs.Status.{code_of, own_line};
 
     /// The code with which the program ends.
     pub fn code(self) -> u8
@@ -42,6 +57,21 @@ impl Status {
             Status::WriteFault => 7,
             Status::InputLong => 8,
             Status::Later => 9,
+        }
+    }
+
+    /// Gives the line that says why nothing is done, if there is one.
+    pub(crate) fn write_line<K: Sink>(self, out: &mut K) -> Result<(), Failed>
+        ensures bytes { OnOk result (Appends (K.given out.old) (K.given out.new) (own_line self)) }
+        ensures part { OnErr result (AppendsPart (K.given out.old) (K.given out.new) (own_line self)) }
+        ensures stands { Stands (K.standing out.old) (K.standing out.new) result }
+    {
+        match self {
+            Status::Words => write_all(out, USAGE.as_bytes()),
+            Status::NetRefused { line, why } => write_all(out, FaultLine::of(line, why).bytes()),
+            Status::NetLong => write_all(out, NET_LONG.as_bytes()),
+            Status::Later => write_all(out, LATER.as_bytes()),
+            _ => write_all(out, &[]),
         }
     }
 }

@@ -1,30 +1,25 @@
 //! The top call.
-ghost use Rattle.std.specs.Prelude.{◌≡◌, ◌≢◌, ◌⊎◌, ◌≤◌, ◌++◌, ◌∷◌, [], IsTrue, string_bytes, IfSome, map};
+ghost use Rattle.std.specs.Prelude.{◌≡◌, ◌≢◌, ◌⊎◌, ◌<◌, ◌≤◌, ◌++◌, ◌∷◌, [], IfOk, IsTrue, length, string_bytes, map};
+ghost use Rattle.eon_model.specs.Legal.{Legal};
 ghost use Rattle.eon_model.specs.NetworkText.{is_setup};
 ghost use Rattle.eon_model.specs.Modes.{task_of};
-ghost use Rattle.eon_outside.specs.Faults.{Rose};
-ghost use Rattle.plan_serve.specs.Status.{line_of};
-ghost use Rattle.plan_serve.specs.Ends.{AskedAt, GivesLine, NetworkAt, RepliesAt, StatesAt, files_asked, OpenedAt, MayEnd};
-ghost use Rattle.plan_serve.specs.Parts.{IsAsked, NetworkIs, ServeEnds, DryEnds};
+ghost use Rattle.eon_outside.specs.Faults.{counted};
+ghost use Rattle.eon_outside.specs.Reading.{IsThere};
+ghost use Rattle.plan_serve.specs.Files.{ReadsNetwork, IsLeft};
+ghost use Rattle.plan_serve.specs.Lines.{most_read};
+ghost use Rattle.plan_serve.specs.Status.{own_line};
+ghost use Rattle.plan_serve.specs.Outside.{outside};
+ghost use Rattle.plan_serve.specs.Ends.{Ends, AskedAt, DryEnds, StreamEnds, AnswersStream, CountsReads, StandsAt, GivesLine, MayEnd, IsRoomy};
 
-use crate::fault_line::FaultLine;
 use crate::session::Session;
 use crate::status::Status;
-use eon_outside::{Failed, ReadEnd, ReadFault, Shelf, Sink, read_up_to, write_all};
+use eon_outside::{Buffered, Failed, ReadEnd, ReadFault, Shelf, Sink, Start, read_up_to};
 use net_file::{NetFault, NetRefusal, read_net};
 use net_setup::NetSetup;
+use plan_core::Core;
 use plan_words::words::{Words, WordsFault, words_of};
-use std::alloc::Global;
-
-/// How the program is called.
-const USAGE: &str =
-    "usage: eonplan dry NET COMMANDS | init NET JOURNAL | serve NET JOURNAL COMMANDS | replay NET JOURNAL | drive NET SEED COUNT\n";
-
-/// What is written for a mode that is not built yet.
-const LATER: &str = "later\n";
-
-/// What is written of a network that is too long.
-const NET_LONG: &str = "net long\n";
+use std::alloc::{AllocError, Global};
+use std::marker::Brand;
 
 /// The most bytes of a network text.
 const LONGEST_NETWORK: usize = 1_048_576;
@@ -43,101 +38,55 @@ pub fn plan_main<H: Shelf, K: Sink>(
     shelf: &mut H,
     out: &mut K,
 ) -> Status
-    // What the words ask for, and what is written where nothing is done.
+    // What the words ask for.
     ensures words { AskedAt (task_of (map string_bytes words.now)) result }
-    ensures refusal { IfSome (line_of result) (λ line. GivesLine (K.given out.old) (K.given out.new) line (Rose (K.faults out.old) (K.faults out.new))) }
-    // The network.
-    ensures network { NetworkAt (task_of (map string_bytes words.now)) (H.files shelf.old) result }
-    // What was read and written at each status.
-    ensures replies { RepliesAt (task_of (map string_bytes words.now)) (H.files shelf.old) (H.opened shelf.old) (H.opened shelf.new) (H.left shelf.new) (K.given out.old) (K.given out.new) result }
-    ensures states { StatesAt (task_of (map string_bytes words.now)) (H.files shelf.old) }
-    ensures opened { OpenedAt (files_asked (task_of (map string_bytes words.now))) (H.opened shelf.old) (H.opened shelf.new) result }
+    // What was opened, read and given at each status, and how many calls failed.
+    ensures ends { Ends (task_of (map string_bytes words.now))
+        (outside (H.files shelf.old) (H.opened shelf.old) (H.left shelf.old) (H.faults shelf.old) (K.given out.old) (K.standing out.old))
+        (outside (H.files shelf.new) (H.opened shelf.new) (H.left shelf.new) (H.faults shelf.new) (K.given out.new) (K.standing out.new)) result }
     ensures files { H.files shelf.new ≡ H.files shelf.old }
-    // Faults have a cause outside.
-    ensures read_fault { result ≡ Status.ReadFault → Rose (H.faults shelf.old) (H.faults shelf.new) }
-    ensures write_fault { result ≡ Status.WriteFault → Rose (K.faults out.old) (K.faults out.new) }
-    ensures counts { (H.faults shelf.old ≤ H.faults shelf.new) × (K.faults out.old ≤ K.faults out.new) }
     // Where nothing is in the way, all lines are answered, unless there is no memory.
-    ensures completeness { MayEnd (task_of (map string_bytes words.now)) (H.files shelf.old) → ¬ (Rose (H.faults shelf.old) (H.faults shelf.new)) → ¬ (Rose (K.faults out.old) (K.faults out.new)) → (result ≡ Status.Done) ⊎ (result ≡ Status.Memory) }
-{
-    match asked_for(alloc, words) {
-        Asked::Dry { net, commands } => dry(alloc, net, commands, shelf, out),
-        Asked::Later => refuse(out, LATER.as_bytes(), Status::Later),
-        Asked::Nothing => refuse(out, USAGE.as_bytes(), Status::Words),
-        Asked::NoMemory => Status::Memory,
-    }
-}
-
-/// What the words ask for.
-enum Asked<'a> {
-    /// To answer a command stream over a network.
-    Dry { net: &'a str, commands: &'a str },
-    /// A mode that is not built yet.
-    Later,
-    /// Nothing: they are not the words of a mode.
-    Nothing,
-    /// There was no memory to read them.
-    NoMemory,
-}
-
-/// Reads the words.
-fn asked_for<'a>(alloc: Global, words: &'a [String]) -> Asked<'a>
-    ensures { IsAsked (task_of (map string_bytes words.entry.now)) result }
+    ensures completeness { MayEnd (task_of (map string_bytes words.now)) (H.files shelf.old) → H.faults shelf.new ≢ counted (H.faults shelf.old) → (K.standing out.new).faults ≢ counted (K.standing out.old).faults → (result ≡ Status.Done) ⊎ (result ≡ Status.Memory) }
+    // So it is for a shelf and a sink of which no call fails.
+    ensures calm { MayEnd (task_of (map string_bytes words.now)) (H.files shelf.old) → IsTrue (H.calm shelf.old) → IsRoomy (task_of (map string_bytes words.now)) (H.files shelf.old) (K.given out.old) (K.standing out.old) → (result ≡ Status.Done) ⊎ (result ≡ Status.Memory) }
 {
     match words_of(alloc, words) {
-        Ok(Words::Dry { net, commands }) => Asked::Dry { net, commands },
-        Ok(Words::Init { .. }) => Asked::Later,
-        Ok(Words::Serve { .. }) => Asked::Later,
-        Ok(Words::Replay { .. }) => Asked::Later,
-        Ok(Words::Drive { .. }) => Asked::Later,
-        Err(WordsFault::Refused) => Asked::Nothing,
-        Err(WordsFault::Memory) => Asked::NoMemory,
+        Ok(Words::Dry { net, commands }) => dry(alloc, net, commands, shelf, out),
+        Ok(_) => refuse(out, Status::Later),
+        Err(WordsFault::Refused) => refuse(out, Status::Words),
+        Err(WordsFault::Memory) => Status::Memory,
     }
 }
 
-/// Gives a line that says why nothing is done. What becomes of it does not change the status.
-fn refuse<K: Sink>(out: &mut K, line: &[u8], status: Status) -> Status
+/// Gives the line that says why nothing is done, if the status has one. What becomes of it does not change the status.
+fn refuse<K: Sink>(out: &mut K, status: Status) -> Status
     ensures status { result ≡ status }
-    ensures given { GivesLine (K.given out.old) (K.given out.new) line.now (Rose (K.faults out.old) (K.faults out.new)) }
-    ensures later { K.faults out.old ≤ K.faults out.new }
+    ensures given { GivesLine (own_line status) (K.given out.old) (K.given out.new) (K.standing out.old).faults (K.standing out.new).faults }
+    ensures room { (K.standing out.new).room ≡ (K.standing out.old).room }
 {
-    match write_all(out, line) {
+    match status.write_line(out) {
         Ok(()) => status,
         Err(Failed) => status,
     }
 }
 
-/// What came of reading the network.
-enum NetworkFile {
-    /// It is the text of this setup.
-    Accepted(NetSetup),
-    /// It is no network text.
-    Refused(NetFault),
-    /// It is too long.
-    Long,
-    /// The shelf failed.
-    Unread,
-    /// There was no memory for it.
-    NoMemory,
-}
-
-/// Reads the network.
-fn read_network<H: Shelf>(alloc: Global, name: &str, shelf: &mut H) -> NetworkFile
-    ensures network { NetworkIs (H.files shelf.old) name.now (Rose (H.faults shelf.old) (H.faults shelf.new)) result }
-    ensures later { H.faults shelf.old ≤ H.faults shelf.new }
+/// Reads the network. Where it is not accepted, the call ends with the status.
+fn read_network<H: Shelf>(alloc: Global, name: &str, shelf: &mut H) -> Result<NetSetup, Status>
+    ensures network { ReadsNetwork (H.files shelf.old) name.now (H.faults shelf.old) (H.faults shelf.new) result }
     ensures files { H.files shelf.new ≡ H.files shelf.old }
     ensures opened { H.opened shelf.new ≡ H.opened shelf.old ++ name.now ∷ [] }
+    ensures calm { IsTrue (H.calm shelf.old) → IsTrue (H.calm shelf.new) × (IsThere (H.files shelf.old) name.now → result ≢ Err Status.ReadFault) }
 {
     let mut bytes = Vec::new(alloc);
     match read_up_to(shelf, name, &mut bytes, LONGEST_NETWORK) {
         Ok(ReadEnd::Whole) => match read_net(alloc, bytes.as_slice()) {
-            Ok(setup) => NetworkFile::Accepted(setup),
-            Err(NetRefusal::Fault(fault)) => NetworkFile::Refused(fault),
-            Err(NetRefusal::Memory) => NetworkFile::NoMemory,
+            Ok(setup) => Ok(setup),
+            Err(NetRefusal::Fault(NetFault { line, why })) => Err(Status::NetRefused { line, why }),
+            Err(NetRefusal::Memory) => Err(Status::Memory),
         },
-        Ok(ReadEnd::Long) => NetworkFile::Long,
-        Err(ReadFault::Failed) => NetworkFile::Unread,
-        Err(ReadFault::Memory) => NetworkFile::NoMemory,
+        Ok(ReadEnd::Long) => Err(Status::NetLong),
+        Err(ReadFault::Failed) => Err(Status::ReadFault),
+        Err(ReadFault::Memory) => Err(Status::Memory),
     }
 }
 
@@ -149,29 +98,21 @@ fn dry<H: Shelf, K: Sink>(
     shelf: &mut H,
     out: &mut K,
 ) -> Status
-    ensures asked { (result ≢ Status.Words) × (result ≢ Status.Later) }
-    ensures refusal { IfSome (line_of result) (λ line. GivesLine (K.given out.old) (K.given out.new) line (Rose (K.faults out.old) (K.faults out.new))) }
-    ensures ends { DryEnds (H.files shelf.old) net.now commands.now (H.opened shelf.old) (H.opened shelf.new) (H.left shelf.new) (K.given out.old) (K.given out.new) result }
+    ensures ends { DryEnds net.now commands.now
+        (outside (H.files shelf.old) (H.opened shelf.old) (H.left shelf.old) (H.faults shelf.old) (K.given out.old) (K.standing out.old))
+        (outside (H.files shelf.new) (H.opened shelf.new) (H.left shelf.new) (H.faults shelf.new) (K.given out.new) (K.standing out.new)) result }
     ensures files { H.files shelf.new ≡ H.files shelf.old }
-    ensures read_fault { result ≡ Status.ReadFault → Rose (H.faults shelf.old) (H.faults shelf.new) }
-    ensures write_fault { result ≡ Status.WriteFault → Rose (K.faults out.old) (K.faults out.new) }
-    ensures counts { (H.faults shelf.old ≤ H.faults shelf.new) × (K.faults out.old ≤ K.faults out.new) }
+    ensures calm { IsTrue (H.calm shelf.old) → IsThere (H.files shelf.old) net.now → IsThere (H.files shelf.old) commands.now → result ≢ Status.ReadFault }
+    ensures room { (K.standing out.new).room ≡ (K.standing out.old).room }
 {
     match read_network(alloc, net, shelf) {
-        NetworkFile::Accepted(setup) => serve(alloc, setup, commands, shelf, out),
-        NetworkFile::Refused(fault) => {
-            let line = FaultLine::of(&fault);
-            let NetFault { line: number, why } = fault;
-            refuse(out, line.bytes(), Status::NetRefused { line: number, why })
-        }
-        NetworkFile::Long => refuse(out, NET_LONG.as_bytes(), Status::NetLong),
-        NetworkFile::Unread => Status::ReadFault,
-        NetworkFile::NoMemory => Status::Memory,
+        Ok(setup) => answer_over(alloc, setup, commands, shelf, out),
+        Err(status) => refuse(out, status),
     }
 }
 
 /// Answers each line of a command stream over this network.
-fn serve<H: Shelf, K: Sink>(
+fn answer_over<H: Shelf, K: Sink>(
     alloc: Global,
     setup: NetSetup,
     commands: &str,
@@ -179,20 +120,82 @@ fn serve<H: Shelf, K: Sink>(
     out: &mut K,
 ) -> Status
     requires { IsTrue (is_setup setup) }
-    ensures ends { ServeEnds (H.files shelf.old) setup commands.now (H.opened shelf.old) (H.opened shelf.new) (H.left shelf.new) (K.given out.old) (K.given out.new) result }
+    ensures ends { StreamEnds setup commands.now
+        (outside (H.files shelf.old) (H.opened shelf.old) (H.left shelf.old) (H.faults shelf.old) (K.given out.old) (K.standing out.old))
+        (outside (H.files shelf.new) (H.opened shelf.new) (H.left shelf.new) (H.faults shelf.new) (K.given out.new) (K.standing out.new)) result }
     ensures files { H.files shelf.new ≡ H.files shelf.old }
-    ensures read_fault { result ≡ Status.ReadFault → Rose (H.faults shelf.old) (H.faults shelf.new) }
-    ensures write_fault { result ≡ Status.WriteFault → Rose (K.faults out.old) (K.faults out.new) }
-    ensures counts { (H.faults shelf.old ≤ H.faults shelf.new) × (K.faults out.old ≤ K.faults out.new) }
+    ensures calm { IsTrue (H.calm shelf.old) → IsThere (H.files shelf.old) commands.now → result ≢ Status.ReadFault }
+    ensures room { (K.standing out.new).room ≡ (K.standing out.old).room }
 {
-    let Ok(mut session) = Session::open(alloc, setup, HELD_BACK) else {
-        return Status::Memory;
-    };
+    match open_session(alloc, setup) {
+        Ok(mut session) => answer_file(alloc, &mut session, commands, shelf, out),
+        Err(AllocError) => Status::Memory,
+    }
+}
+
+/// A session over this network, with no service yet.
+fn open_session(alloc: Global, setup: NetSetup) -> Result<Session, AllocError>
+    requires { IsTrue (is_setup setup) }
+    ensures setup { IfOk result (λ s. s.core.setup ≡ setup) }
+    ensures state { IfOk result (λ s. s.core.state ≡ []) }
+    ensures begun { IfOk result (λ s. s.begun.items ≡ []) }
+{
+    let core = Core::open(alloc, setup)?;
+    Session::open(alloc, core)
+}
+
+/// Answers each line of the file of this name.
+fn answer_file<H: Shelf, K: Sink>(
+    alloc: Global,
+    session: &mut Session,
+    commands: &str,
+    shelf: &mut H,
+    out: &mut K,
+) -> Status
+    requires none_begun { session.old.begun.items ≡ [] }
+    requires at_start { session.old.core.state ≡ [] }
+    requires in_range { IsTrue (is_setup session.old.core.setup) }
+    ensures ends { StreamEnds session.old.core.setup commands.now
+        (outside (H.files shelf.old) (H.opened shelf.old) (H.left shelf.old) (H.faults shelf.old) (K.given out.old) (K.standing out.old))
+        (outside (H.files shelf.new) (H.opened shelf.new) (H.left shelf.new) (H.faults shelf.new) (K.given out.new) (K.standing out.new)) result }
+    ensures files { H.files shelf.new ≡ H.files shelf.old }
+    ensures calm { IsTrue (H.calm shelf.old) → IsThere (H.files shelf.old) commands.now → result ≢ Status.ReadFault }
+    ensures room { (K.standing out.new).room ≡ (K.standing out.old).room }
+{
     let Ok(mut buffer) = vec![in alloc; 0u8; PIECE] else {
         return Status::Memory;
     };
+    let Ok(mut held) = Vec::with_capacity(alloc, HELD_BACK) else {
+        return Status::Memory;
+    };
     match shelf.open(commands) {
-        Ok(()) => session.serve(shelf, buffer.as_mut_slice(), out),
+        Ok(()) => answer_open::<H, K, Brand>(session, shelf, buffer.as_mut_slice(), &mut held, out),
         Err(Failed) => Status::ReadFault,
     }
+}
+
+/// Answers each line of the open file. Replies are held back while there is room for them.
+fn answer_open<H: Shelf, K: Sink, S: Start>(
+    session: &mut Session,
+    shelf: &mut H,
+    buffer: &mut [u8],
+    held: &mut Vec<u8>,
+    out: &mut K,
+) -> Status
+    requires some_room { 0 < length buffer.old }
+    requires few { length buffer.old ≤ most_read }
+    requires none_begun { session.old.begun.items ≡ [] }
+    requires none_held { held.old.items ≡ [] }
+    requires from { S.bytes ≡ K.given out.old }
+    requires in_range { IsTrue (is_setup session.old.core.setup) }
+    requires legal { Legal session.old.core.setup session.old.core.state }
+    ensures answered { AnswersStream (IsLeft (H.left shelf.old)) session.old.core.setup session.old.core.state (H.left shelf.new) (K.given out.old) (K.given out.new) result }
+    ensures files { H.files shelf.new ≡ H.files shelf.old }
+    ensures opened { H.opened shelf.new ≡ H.opened shelf.old }
+    ensures reads { CountsReads result (H.faults shelf.old) (H.faults shelf.new) }
+    ensures stands { StandsAt result (K.standing out.old) (K.standing out.new) }
+    ensures calm { IsTrue (H.calm shelf.old) → result ≢ Status.ReadFault }
+{
+    let mut replies: Buffered<'_, K, S> = Buffered::new(out, held);
+    session.answer_stream(shelf, buffer, &mut replies)
 }

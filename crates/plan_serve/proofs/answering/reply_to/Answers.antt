@@ -4,7 +4,8 @@ use Rattle.plan_serve.proofs.answering.reply_to.Goals as goal
 
 pub returns-then-line-gt-LONGEST_LINE-clause-decides :
     goal.returns-then-line-gt-LONGEST_LINE-clause-decides
-returns-then-line-gt-LONGEST_LINE-clause-decides c = long_decides _ _ _ _ (omega (arith, c.if-line-gt-LONGEST_LINE.true)) refl
+returns-then-line-gt-LONGEST_LINE-clause-decides c =
+    long_decides _ _ _ _ (omega (arith, c.if-line-gt-LONGEST_LINE.true)) refl
 
 pub returns-in-Err-clause-decides : goal.returns-in-Err-clause-decides
 returns-in-Err-clause-decides c =

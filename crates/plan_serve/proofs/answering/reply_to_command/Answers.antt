@@ -1,5 +1,6 @@
-use Rattle.std.proofs.Common.{sym, ◌∙◌}
+use Rattle.std.proofs.Common.{sym, ◌∙◌, ap}
 use Rattle.std.proofs.lemmas.Bool.{false≢true}
+use Rattle.plan_core.specs.Seen.{CoreSeen}
 use Rattle.plan_serve.proofs.DecideLaws.{later_decides, say_decides, change_decides, memory_decides}
 use Rattle.plan_serve.proofs.answering.reply_to_command.Goals as goal
 
@@ -21,5 +22,5 @@ returns-in-Ok-Change-clause-decides c =
 
 pub returns-in-Err-clause-decides : goal.returns-in-Err-clause-decides
 returns-in-Err-clause-decides c =
-    memory_decides _ _ _ _ (sym c.is_built.ensures ∙ c.if-not-is_built.false) c.in-Err.ensures.state
-    (λ free. false≢true (c.in-Err.ensures.no_memory free))
+    memory_decides _ _ _ _ (sym c.is_built.ensures ∙ c.if-not-is_built.false)
+    (ap (λ (m : CoreSeen). m.state) c.in-Err.ensures.wanted) (λ free. false≢true (c.in-Err.ensures.no_memory free))

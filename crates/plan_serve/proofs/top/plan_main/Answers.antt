@@ -1,24 +1,18 @@
-use Rattle.std.proofs.Common.{sym, subst, Option}
-use Rattle.eon_model.specs.Modes.{Task}
-use Rattle.plan_serve.specs.Ends.{files_asked, OpenedAt, MayEnd}
-use Rattle.plan_serve.proofs.TopLaws.{states_at, opened_at, completes}
+use Rattle.std.proofs.Common.{refl}
+use Rattle.plan_serve.proofs.TopLaws.{dry_asks, completes, calm_read, calm_ends}
 use Rattle.plan_serve.proofs.top.plan_main.Goals as goal
 
-pub returns-in-Dry-clause-states : goal.returns-in-Dry-clause-states
-returns-in-Dry-clause-states g c = states_at _ (g.H.Shelf.files c.args.shelf.now)
+pub returns-in-Ok-Dry-clause-completeness : goal.returns-in-Ok-Dry-clause-completeness
+returns-in-Ok-Dry-clause-completeness g c = λ may no_read no_write.
+    completes _ _ _ c.dry.result
+    (dry_asks _ c.in-Ok-Dry.net c.in-Ok-Dry.commands _ _ _ c.dry.result c.in-Ok-Dry.ensures.task c.in-Ok-Dry.field-0-is
+    c.dry.ensures.ends) may no_read no_write
 
-pub returns-in-Dry-clause-opened : goal.returns-in-Dry-clause-opened
-returns-in-Dry-clause-opened g c =
-    subst (λ (m : Option Task). OpenedAt (files_asked m) (g.H.Shelf.opened c.args.shelf.now)
-    (g.H.Shelf.opened c.dry.new.shelf) c.dry.result) (sym c.in-Dry.ensures)
-    (opened_at (g.H.Shelf.files c.args.shelf.now) _ _ _ _ (g.H.Shelf.left c.dry.new.shelf)
-    (g.K.Sink.given c.args.out.now) (g.K.Sink.given c.dry.new.out) c.dry.result c.dry.ensures.ends)
-
-pub returns-in-Dry-clause-completeness : goal.returns-in-Dry-clause-completeness
-returns-in-Dry-clause-completeness g c = λ may.
-    completes (g.H.Shelf.files c.args.shelf.now) _ _ _ _ _ _ _ _ _ c.dry.result c.dry.ensures.ends
-    c.dry.ensures.read_fault c.dry.ensures.write_fault
-    (subst (λ (m : Option Task). MayEnd m (g.H.Shelf.files c.args.shelf.now)) c.in-Dry.ensures may)
-
-pub returns-in-NoMemory-clause-states : goal.returns-in-NoMemory-clause-states
-returns-in-NoMemory-clause-states g c = states_at _ (g.H.Shelf.files c.args.shelf.now)
+pub returns-in-Ok-Dry-clause-calm : goal.returns-in-Ok-Dry-clause-calm
+returns-in-Ok-Dry-clause-calm g c = λ may calm roomy.
+    calm_ends _ _ _ (g.K.Sink.standing c.args.out.now) (g.K.Sink.standing c.dry.new.out) c.dry.result
+    (dry_asks _ c.in-Ok-Dry.net c.in-Ok-Dry.commands _ _ _ c.dry.result c.in-Ok-Dry.ensures.task c.in-Ok-Dry.field-0-is
+    c.dry.ensures.ends) may roomy
+    (calm_read _ c.in-Ok-Dry.net c.in-Ok-Dry.commands _ (g.H.Shelf.files c.args.shelf.now) c.dry.result
+    c.in-Ok-Dry.ensures.task c.in-Ok-Dry.field-0-is (c.dry.ensures.calm calm))
+    c.dry.ensures.room refl (g.met.K.Sink.sure c.dry.new.out)

@@ -1,8 +1,6 @@
-use Rattle.std.proofs.Common.{◌≡◌, ℕ, ◌≤◌, List, ◌++◌, length, take}
-use Rattle.std.specs.Prelude.{IsTrue}
-use Rattle.plan_serve.specs.Gathering.{output}
-use Rattle.plan_serve.specs.Lines.{has_no_end, most_kept}
-use Rattle.plan_serve.specs.Session.{FeedsAll}
+use Rattle.std.proofs.Common.{◌≡◌, ℕ, ◌≤◌, List, ◌++◌, length, Option}
+use Rattle.eon_model.specs.Services.{State}
+use Rattle.plan_serve.specs.Session.{Goes}
 use Rattle.plan_serve.proofs.session.Session.answer_lines.Given as goal
 
 abbrev pub invariant-loop-at : goal.invariant-loop-at
@@ -11,13 +9,12 @@ invariant-loop-at g l = record {
   done : List ℕ;
   whole : l.piece ≡ done ++ l.rest;
   setup : l.self.core.setup ≡ l.initial.self.core.setup;
-  fed : (fragment : List ℕ) → IsTrue (has_no_end fragment)
-      → l.initial.self.begun.items ≡ take most_kept fragment
-      → FeedsAll l.initial.self.core.setup l.initial.self.core.state
-      l.self.core.state l.self.begun.items (fragment ++ done)
-      (output (g.K.Sink.given l.initial.out) l.initial.self.replies)
-      (output (g.K.Sink.given l.out) l.self.replies);
-  later : g.K.Sink.faults l.initial.out ≤ g.K.Sink.faults l.out;
+  goes : (start : State) (before : Option (List ℕ)) (bytes : List ℕ)
+      → Goes l.initial.self.core.setup start before l.initial.self.core.state l.initial.self.begun.items bytes
+      (g.K.Sink.given l.initial.out)
+      → Goes l.initial.self.core.setup start before l.self.core.state l.self.begun.items (bytes ++ done)
+      (g.K.Sink.given l.out);
+  stands : g.K.Sink.standing l.out ≡ g.K.Sink.standing l.initial.out;
 }
 
 abbrev pub decreases-loop-at : goal.decreases-loop-at

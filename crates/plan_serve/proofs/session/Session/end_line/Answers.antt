@@ -1,11 +1,10 @@
-use Rattle.std.proofs.Common.{◌≡◌, sym, ◌∙◌, subst, ℕ, List, length, arith}
+use Rattle.std.proofs.Common.{◌≡◌, sym, ◌∙◌, subst, length, arith}
 use Rattle.std.proofs.lemmas.Bool.{eqb-true}
 use Rattle.eon_outside.specs.declared.reading.Failed.{Failed}
 use Rattle.plan_core.specs.Seen.{CoreSeen}
 use Rattle.plan_serve.specs.Answering.{AnswersLine}
-use Rattle.plan_serve.specs.Gathering.{output}
 use Rattle.plan_serve.proofs.KeptLaws.{no_length}
-use Rattle.plan_serve.proofs.FeedLaws.{answers_whole, answers_kept}
+use Rattle.plan_serve.proofs.FrontLaws.{answers_whole, answers_kept}
 use Rattle.plan_serve.proofs.session.Session.end_line.Goals as goal
 
 pub returns-then-is_empty-clause-told : goal.returns-then-is_empty-clause-told
@@ -17,14 +16,10 @@ returns-then-is_empty-clause-told g c = λ fragment kept.
 
 pub returns-clause-told : goal.returns-clause-told
 returns-clause-told g c = λ fragment kept.
-    let new = output (g.K.Sink.given c.answer-answered.new.out) c.answer-answered.new.replies in
     answers_kept {E = Failed} _ _ _ c.args.self.now.begun.items fragment c.args.part.now
-    c.as_slice-line.result.now _ _ c.answer-answered.result kept
-    (c.as_slice-line.ensures.value ∙ c.keep.ensures.begun)
-    (subst (λ (v : List ℕ). AnswersLine {E = Failed} c.args.self.now.core.setup c.args.self.now.core.state
-    c.answer-answered.new.core.state c.as_slice-line.result.now (output (g.K.Sink.given c.args.out.now) v) new
-    c.answer-answered.result) c.keep.ensures.replies
+    c.as_slice.result.now _ _ c.answer-answered.result kept
+    (c.as_slice.ensures.value ∙ c.keep.ensures.begun)
     (subst (λ (m : CoreSeen). AnswersLine {E = Failed} m.setup m.state
-    c.answer-answered.new.core.state c.as_slice-line.result.now
-    (output (g.K.Sink.given c.args.out.now) c.keep.new.self.replies) new c.answer-answered.result)
-    c.keep.ensures.core c.answer-answered.ensures.told))
+    c.answer-answered.new.core.state c.as_slice.result.now
+    (g.K.Sink.given c.args.out.now) (g.K.Sink.given c.answer-answered.new.out) c.answer-answered.result)
+    c.keep.ensures.core c.answer-answered.ensures.told)

@@ -1,16 +1,19 @@
-use Rattle.eon_outside.specs.declared.reading.Failed.{Failed}
-use Rattle.plan_serve.specs.Gathering.{output}
-use Rattle.plan_serve.proofs.GivenLaws.{fed_given, fed_part}
+use Rattle.plan_serve.proofs.FeedLaws.{fed_given, fed_part, fed_broken}
 use Rattle.plan_serve.proofs.session.Session.feed.Goals as goal
 
-pub returns-in-Ok-give_to-clause-fed : goal.returns-in-Ok-give_to-clause-fed
-returns-in-Ok-give_to-clause-fed g c = λ fragment whole kept.
-    fed_given Failed _ _ _ _ _ (g.K.Sink.given c.args.out.now) (g.K.Sink.given c.give_to.new.out)
-    c.args.self.now.replies (output (g.K.Sink.given c.answer_lines.new.out) c.answer_lines.new.self.replies)
-    c.in-Ok.flow c.requires.none_held (c.in-Ok.ensures.fed fragment whole kept) c.in-Ok-give_to.ensures.bytes
+pub returns-in-Ok-flush-clause-fed : goal.returns-in-Ok-flush-clause-fed
+returns-in-Ok-flush-clause-fed g c = λ start before bytes h.
+    fed_given _ start _ before g.S.Start.bytes (g.K.Sink.given c.answer_lines.new.out.out.now)
+    (g.K.Sink.given c.flush.new.self.out.now) _ _ c.answer_lines.new.out.held.now.items c.flush.new.self.held.now.items
+    c.in-Ok-flush.field-0 c.in-Ok.flow c.in-Ok-flush.ensures.bytes (c.in-Ok.ensures.fed start before bytes h)
 
-pub returns-in-Err-give_to-clause-fed : goal.returns-in-Err-give_to-clause-fed
-returns-in-Err-give_to-clause-fed g c = λ fragment whole kept.
-    fed_part Failed _ _ _ _ _ (g.K.Sink.given c.args.out.now) (g.K.Sink.given c.give_to.new.out)
-    c.args.self.now.replies (output (g.K.Sink.given c.answer_lines.new.out) c.answer_lines.new.self.replies)
-    c.in-Ok.flow c.requires.none_held (c.in-Ok.ensures.fed fragment whole kept) c.in-Err-give_to.ensures.part
+pub returns-in-Err-flush-clause-fed : goal.returns-in-Err-flush-clause-fed
+returns-in-Err-flush-clause-fed g c = λ start before bytes h.
+    fed_part _ start c.answer_lines.new.self.core.state before g.S.Start.bytes
+    (g.K.Sink.given c.answer_lines.new.out.out.now) (g.K.Sink.given c.flush.new.self.out.now)
+    c.answer_lines.new.self.begun.items _ c.answer_lines.new.out.held.now.items c.flush.new.self.held.now.items (Unit {0})
+    c.in-Ok.flow c.in-Err-flush.field-0 c.in-Err-flush.ensures.bytes (c.in-Ok.ensures.fed start before bytes h)
+
+pub returns-in-Err-clause-fed : goal.returns-in-Err-clause-fed
+returns-in-Err-clause-fed g c = λ start before bytes h.
+    fed_broken _ start before _ _ c.answer_lines.new.out.held.now.items (c.in-Err.ensures.fed start before bytes h)

@@ -1,0 +1,235 @@
+-- Lines that are answered one after the other.
+use Rattle.std.proofs.Common.{◌≡◌, ◌≢◌, refl, sym, ◌∙◌, ap, subst, ℕ, ◌+◌, Bool, true, false, List, [], ◌∷◌, ◌++◌, append_assoc, length, length-append, Option, None, arith, not}
+use Rattle.std.specs.Prelude.{MatchBool, ⊤}
+use Rattle.std.specs.List.{list_all}
+use Rattle.std.specs.Io.KnownBytes.{Appends}
+use Rattle.std.proofs.lemmas.List.{append-nil}
+use Rattle.eon_model.specs.Services.{State}
+use Rattle.eon_model.specs.Legal.{Setup, Legal}
+use Rattle.eon_model.specs.NetworkText.{is_setup}
+use Rattle.eon_model.specs.Answers.{Answer, state_after, takes_memory}
+use Rattle.eon_model.specs.LineStream.{is_quit, lines_of, AnswersEach, after_each}
+use Rattle.eon_model.specs.Run.{Answering, Runs, Situation, situation, planner, answer_text, answers_text, changes_of, state_at_end, MissesOnly}
+use Rattle.eon_model.specs.Later.{AnswersSoFar}
+use Rattle.eon_model.proofs.AnswersWell.{so_far-well}
+use Rattle.eon_model.proofs.RunLaws.{stays, states-sound, beginnings-early}
+use Rattle.eon_model.proofs.StreamRuns.{each-goes_on}
+use Rattle.eon_model.proofs.MissedLines.{misses-fewer}
+use Rattle.plan_core.specs.Built.{is_built}
+use Rattle.plan_serve.specs.Answering.{HasAnswer, TakesMemory}
+use Rattle.plan_serve.specs.Session.{Answered, AreAnswered}
+use Rattle.plan_serve.specs.Ends.{Serves, Begins, GoesOnBehind}
+use Rattle.plan_serve.proofs.StreamLaws.{answers-then, answers-agree, with_mark, mark-below, mark-at, mark-behind, misses-agree, misses-none}
+
+abbrev so_far : Answering
+so_far = AnswersSoFar is_built
+
+-- how the planner stands after some answers
+after-answers : (setup : Setup) (state : State) (answers : List Answer) →
+    after_each (planner so_far setup) (situation state None) answers ≡ situation (state_at_end setup state answers) None
+after-answers setup state [] = refl
+after-answers setup state (a ∷ later) = after-answers setup (state_after setup.network state a.event) later
+
+text-append : (setup : Setup) (state : State) (xs ys : List Answer) →
+    answers_text setup state (xs ++ ys)
+    ≡ answers_text setup state xs ++ answers_text setup (state_at_end setup state xs) ys
+text-append setup state [] ys = refl
+text-append setup state (x ∷ xs) ys =
+    let after = state_after setup.network state x.event in
+    ap (λ (v : List ℕ). answer_text setup state x ++ v) (text-append setup after xs ys)
+    ∙ sym (append_assoc (answer_text setup state x) (answers_text setup after xs) _)
+
+end-append : (setup : Setup) (state : State) (xs ys : List Answer) →
+    state_at_end setup state (xs ++ ys) ≡ state_at_end setup (state_at_end setup state xs) ys
+end-append setup state [] ys = refl
+end-append setup state (x ∷ xs) ys = end-append setup (state_after setup.network state x.event) xs ys
+
+-- ---- one line more
+
+pub answered_none : (setup : Setup) (start : State) → AreAnswered setup start [] start []
+answered_none setup start = record {
+  missed = [];
+  answers = [];
+  answered = tt;
+  behind = λ n l. refl;
+  only = tt;
+  state = refl;
+  told = refl;
+}
+
+module _ (setup : Setup) (start here : State) (lines : List (List ℕ)) (text line : List ℕ) (mark : Bool) (a : Answer)
+    (none_quits : list_all (λ line. not (is_quit line)) lines ≡ true) (h : AreAnswered setup start lines here text)
+    (has : HasAnswer setup here line mark a) where
+  abbrev number : ℕ
+  number = 1 + length lines
+
+  abbrev missed : List ℕ
+  missed = with_mark mark number h.missed
+
+  abbrev nothing : List Answer
+  nothing = []
+
+  stands : after_each (planner so_far setup) (situation start None) h.answers ≡ situation here None
+  stands = after-answers setup start h.answers ∙ ap (λ (v : State). situation v None) (sym h.state)
+
+  last : (more : List (List ℕ)) (s : Situation) (quit : Bool) → MatchBool quit ⊤ (more ≡ []) →
+      MatchBool quit (nothing ≡ []) (AnswersEach (planner so_far setup) missed (number + 1) s more nothing)
+  last more s true e = refl
+  last more s false e =
+      subst (λ (v : List (List ℕ)). AnswersEach (planner so_far setup) missed (number + 1) s v nothing) (sym e) tt
+
+  -- behind the answers so far the line is answered so; where it is `quit`, whatever comes behind it
+  next_line : (more : List (List ℕ)) → MatchBool (is_quit line) ⊤ (more ≡ []) →
+      Answered setup missed start (lines ++ line ∷ more) (h.answers ++ a ∷ [])
+  next_line more end =
+      answers-then (planner so_far setup) missed 1 (situation start None) lines (line ∷ more) h.answers (a ∷ []) none_quits
+      (answers-agree (planner so_far setup) h.missed missed 1 (situation start None) lines h.answers
+      (λ n l. mark-below mark number n h.missed l) h.answered)
+      (subst (λ (s : Situation). AnswersEach (planner so_far setup) missed number s (line ∷ more) (a ∷ nothing))
+      (sym stands) (
+        subst (λ (b : Bool). so_far setup here None line b a) (mark-at mark number h.missed h.behind) has.is,
+        last more (situation (state_after setup.network here a.event) None) (is_quit line) end,
+      ))
+
+  one_more : length (lines ++ line ∷ []) + 1 ≡ number + 1
+  one_more = ap (λ (n : ℕ). n + 1) (length-append lines (line ∷ [])) ∙ omega arith
+
+  any_end : (quit : Bool) → MatchBool quit ⊤ (◌≡◌ {A = List (List ℕ)} [] [])
+  any_end true = tt
+  any_end false = refl
+
+  pub answered_more : AreAnswered setup start (lines ++ line ∷ []) (state_after setup.network here a.event)
+      (text ++ answer_text setup here a)
+  answered_more = record {
+    missed = missed;
+    answers = h.answers ++ a ∷ [];
+    answered = next_line [] (any_end (is_quit line));
+    behind = λ n l. mark-behind mark number h.missed h.behind n (omega (arith, one_more));
+    only = misses-agree takes_memory h.missed missed 1 lines (line ∷ []) (λ n l. mark-below mark number n h.missed l) h.only
+        (subst (λ (b : Bool). MatchBool b (TakesMemory line) ⊤) (mark-at mark number h.missed h.behind) has.only, tt);
+    state = sym (end-append setup start h.answers (a ∷ [])
+        ∙ ap (λ (v : State). state_after setup.network v a.event) (sym h.state));
+    told = ap (λ (v : List ℕ). v ++ answer_text setup here a) h.told
+        ∙ ap (λ (v : State). answers_text setup start h.answers ++ answer_text setup v a) h.state
+        ∙ ap (λ (v : List ℕ). answers_text setup start h.answers ++ v)
+        (sym (append-nil (answer_text setup (state_at_end setup start h.answers) a)))
+        ∙ sym (text-append setup start h.answers (a ∷ []));
+  }
+
+  -- the answers up to `quit`, whatever comes behind it
+  pub answered_quit : is_quit line ≡ true → (more : List (List ℕ)) →
+      Answered setup answered_more.missed start ((lines ++ line ∷ []) ++ more) answered_more.answers
+  unfolding answered_more
+  answered_quit quit more =
+      subst (λ (v : List (List ℕ)). Answered setup missed start v (h.answers ++ a ∷ [])) (sym (append_assoc lines (line ∷ []) more))
+      (next_line more (subst (λ (b : Bool). MatchBool b ⊤ (more ≡ [])) (sym quit) tt))
+
+-- ---- runs
+
+module _ (setup : Setup) (start here : State) (ok : is_setup setup ≡ true) (legal : Legal setup start)
+    (lines : List (List ℕ)) (text : List ℕ) (h : AreAnswered setup start lines here text)
+    (bytes : List ℕ) (before now : Option (List ℕ)) where
+  -- all lines are answered
+  pub serves_lines : lines_of bytes ≡ lines → Appends before now text → Serves setup start bytes before now
+  serves_lines is given =
+      let run : Runs so_far setup start None bytes h.missed text (changes_of h.answers) = record {
+        answers = h.answers;
+        answered = subst (λ (v : List (List ℕ)). Answered setup h.missed start v h.answers) (sym is) h.answered;
+        told = h.told;
+        changed = refl;
+      } in record {
+        missed = h.missed;
+        output = text;
+        changes = changes_of h.answers;
+        run = run;
+        only = subst (λ (v : List (List ℕ)). MissesOnly takes_memory h.missed 1 v) (sym is) h.only;
+        sound = (states-sound so_far (so_far-well is_built) setup start None bytes h.missed ok legal).0 text
+            (changes_of h.answers) run;
+        given = given;
+      }
+
+  -- only lines of commands that take memory are missed, whatever comes behind these
+  only_more : (more : List (List ℕ)) → MissesOnly takes_memory h.missed 1 (lines ++ more)
+  only_more more = misses-agree takes_memory h.missed h.missed 1 lines more (λ n l. refl) h.only
+      (misses-none takes_memory h.missed (1 + length lines) more h.behind)
+
+  -- all lines up to `quit` are answered
+  pub serves_quit : (more : List (List ℕ)) → lines_of bytes ≡ lines ++ more →
+      Answered setup h.missed start (lines ++ more) h.answers → Appends before now text →
+      Serves setup start bytes before now
+  serves_quit more is whole given =
+      let run : Runs so_far setup start None bytes h.missed text (changes_of h.answers) = record {
+        answers = h.answers;
+        answered = subst (λ (v : List (List ℕ)). Answered setup h.missed start v h.answers) (sym is) whole;
+        told = h.told;
+        changed = refl;
+      } in record {
+        missed = h.missed;
+        output = text;
+        changes = changes_of h.answers;
+        run = run;
+        only = subst (λ (v : List (List ℕ)). MissesOnly takes_memory h.missed 1 v) (sym is) (only_more more);
+        sound = (states-sound so_far (so_far-well is_built) setup start None bytes h.missed ok legal).0 text
+            (changes_of h.answers) run;
+        given = given;
+      }
+
+  -- A run over more lines: its output begins with this text.
+  record GoesOn : Type 0 where
+    answers : List Answer
+    rest : List ℕ
+    run : Runs so_far setup start None bytes h.missed (text ++ rest) (changes_of answers)
+
+  goes_on : (more : List (List ℕ)) → lines_of bytes ≡ lines ++ more → GoesOn
+  goes_on more is =
+      let later = each-goes_on (planner so_far setup) (λ s. Legal setup s.state)
+      (stays so_far (so_far-well is_built) setup ok) h.missed 1 (situation start None) lines more h.answers legal h.behind
+      h.answered in
+      let rest = answers_text setup (state_at_end setup start h.answers) later.0 in record {
+        answers = h.answers ++ later.0;
+        rest = rest;
+        run = record {
+          answers = h.answers ++ later.0;
+          answered = subst (λ (v : List (List ℕ)). Answered setup h.missed start v (h.answers ++ later.0)) (sym is) later.1;
+          told = ap (λ (v : List ℕ). v ++ rest) h.told ∙ sym (text-append setup start h.answers later.0);
+          changed = refl;
+        };
+      }
+
+  -- a front of the answers was given
+  pub begins_front : (more : List (List ℕ)) (front left : List ℕ) → lines_of bytes ≡ lines ++ more → front ++ left ≡ text →
+      Appends before now front → (b : Begins setup start bytes before now) × (b.part ≡ front)
+  begins_front more front left is cut given =
+      let r = goes_on more is in
+      let part : front ++ (left ++ r.rest) ≡ text ++ r.rest =
+      sym (append_assoc front left r.rest) ∙ ap (λ (v : List ℕ). v ++ r.rest) cut in
+      let early = beginnings-early so_far (so_far-well is_built) setup start None bytes h.missed (text ++ r.rest) front
+      (changes_of r.answers) ok legal r.run (left ++ r.rest, part) in (
+        record {
+          missed = early.0;
+          part = front;
+          run = early.1.1;
+          only = misses-fewer takes_memory h.missed early.0 1 (lines_of bytes) early.1.0
+              (subst (λ (v : List (List ℕ)). MissesOnly takes_memory h.missed 1 v) (sym is) (only_more more));
+          sound = (states-sound so_far (so_far-well is_built) setup start None bytes early.0 ok legal).1 front early.1.1;
+          given = given;
+        },
+        refl,
+      )
+
+  -- and not all of them
+  pub ends_early : (more : List (List ℕ)) (front left : List ℕ) → lines_of bytes ≡ lines ++ more → front ++ left ≡ text →
+      left ≢ [] → GoesOnBehind setup start bytes front
+  ends_early more front left is cut some =
+      let r = goes_on more is in record {
+        missed = h.missed;
+        rest = left ++ r.rest;
+        changes = changes_of r.answers;
+        more = λ none. some (first_empty left r.rest none);
+        run = subst (λ (v : List ℕ). Runs so_far setup start None bytes h.missed v (changes_of r.answers))
+            (sym (sym (append_assoc front left r.rest) ∙ ap (λ (v : List ℕ). v ++ r.rest) cut)) r.run;
+      }
+    where
+      first_empty : (xs ys : List ℕ) → xs ++ ys ≡ [] → xs ≡ []
+      first_empty [] ys e = refl
+      first_empty (x ∷ xs) ys e = cc
