@@ -2,6 +2,7 @@ pub mod ListParts
 pub mod PartLaws
 pub mod WordLaws
 pub mod ScanLaws
+pub mod SplitLaws
 pub mod ChoiceLaws
 pub mod NameParts
 pub mod FibreParts

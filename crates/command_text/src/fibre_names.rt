@@ -1,11 +1,12 @@
 //! Lists of fibre names as they stand in a line.
-ghost use Rattle.std.specs.Prelude.{◌≡◌, ◌<◌, ◌≤◌, ◌==◌, length, slice_get, count_by};
-ghost use Rattle.std.specs.Option.{option_map};
+ghost use Rattle.std.specs.Prelude.{◌≡◌, ◌<◌, ◌≤◌, ◌==◌, ◌∷◌, [], length, slice_get, count_by};
+ghost use Rattle.std.specs.Option.{option_map, option_map_or, unwrap_or};
 ghost use Rattle.eon_model.specs.Network.{name_at};
 ghost use Rattle.eon_model.specs.Spelling.{fibre_list};
 ghost use Rattle.command_text.specs.Reading.{munch, settle};
 ghost use Rattle.command_text.specs.Parts.{one_more, fibre_scan, comma_pieces, fibres_at, fibre_names_of};
 ghost use Rattle.command_text.specs.Given.{Gives};
+ghost use Rattle.command_text.specs.Walks.{names_left};
 
 use crate::part::{NAME_LEN, Stuck, is_name_byte};
 use eon_base::name::Name;
@@ -49,6 +50,29 @@ impl<'a> FibreNames<'a> {
         self.bytes
     }
 
+    /// The names, one after another.
+    pub fn iter(&self) -> FibreWalk<'a>
+        ensures { names_left result ≡ self.now }
+    {
+        FibreWalk {
+            rest: Some(FibreNames { bytes: self.bytes }),
+        }
+    }
+
+    // The first name, and the list of the others; None where there is no other.
+    fn split_first(&self) -> (Name, Option<FibreNames<'a>>)
+        ensures { self.now ≡ result.0 ∷ unwrap_or result.1 [] }
+    {
+        let (piece, others) = split_piece(self.bytes);
+        let Ok(name) = Name::read(piece) else {
+            unreachable!()
+        };
+        match others {
+            Some(bytes) => (name, Some(FibreNames { bytes })),
+            None => (name, None),
+        }
+    }
+
     /// How many names there are.
     pub fn len(&self) -> usize
         ensures { result ≡ length self.now }
@@ -69,6 +93,42 @@ impl<'a> FibreNames<'a> {
             Err(_) => unreachable!(),
         }
     }
+}
+
+/// A walk over the names of a list, in order.
+#[derive(Drop)]
+pub struct FibreWalk<'a> {
+    rest: Option<FibreNames<'a>>,
+}
+
+impl<'a> Iterator for FibreWalk<'a> {
+    ghost use Rattle.std.specs.Iterator.{YieldsFirst, item_count};
+    ghost use Rattle.command_text.specs.Walks.{names_left};
+
+    type Item = Name;
+
+    ghost next_gives = { YieldsFirst names_left };
+
+    ghost remaining = { item_count names_left };
+
+    fn next(&mut self) -> Option<Name> {
+        let names = self.rest.take()?;
+        let (name, rest) = names.split_first();
+        self.rest = rest;
+        Some(name)
+    }
+}
+
+// The bytes before the first comma, and those behind it; None where there is no comma.
+fn split_piece(bytes: &[u8]) -> (&[u8], Option<&[u8]>)
+    ensures { comma_pieces bytes.now ≡ result.0.now ∷ option_map_or (λ rest. comma_pieces rest.now) result.1 [] }
+{
+    for (at, byte) in bytes.iter().enumerate() {
+        if *byte == b',' {
+            return (&bytes[..at], Some(&bytes[at + 1..]));
+        }
+    }
+    (bytes, None)
 }
 
 fn commas(bytes: &[u8]) -> usize

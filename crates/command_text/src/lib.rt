@@ -16,6 +16,6 @@ mod verb;
 
 pub use command::{BackWords, Command, LineFault};
 pub use eon_model::Class;
-pub use fibre_names::FibreNames;
+pub use fibre_names::{FibreNames, FibreWalk};
 pub use printing::print_command;
 pub use reading::read_command;
