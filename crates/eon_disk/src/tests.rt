@@ -1,4 +1,6 @@
 //! What no clause says: the file of the machine, that memory is not wanting where there is enough, and rows by hand.
+ghost use Rattle.std.specs.Prelude.{◌≡◌, Some, codes};
+
 use crate::{Deck, Disk, DiskFailed, FileDeck, Fill, MemDisk};
 use std::alloc::{AllocError, Global};
 use std::fs;
@@ -40,6 +42,82 @@ fn a_write_at_the_stop_takes_place(rt: HostRuntime) -> Result<(), Fail> {
     let at = written_disk(alloc, 200, Some(2))?;
     assert_eq!(rt; at.faults(), 1);
     assert_eq!(rt; at.crash(Fill::Kept).as_slice(), b"XYcd".as_slice());
+    Ok(())
+}
+
+/// Attaches a disk of the bytes "abcd", and writes, syncs, cuts, and writes and syncs again, until a call fails.
+fn run_script<D: Deck>(disk: &mut D) -> Result<(), DiskFailed>
+    requires { D.now disk.old ≡ Some (codes "abcd") }
+{
+    disk.attach("JOURNAL", false)?;
+    disk.write_at(0, b"XY")?;
+    disk.sync()?;
+    disk.cut(2)?;
+    disk.write_at(2, b"P")?;
+    disk.sync()
+}
+
+/// What a crash leaves after the script, where the disk stopped at this call.
+fn crashed_at(alloc: Global, stop: u64, fill: Fill) -> Result<Vec<u8>, AllocError> {
+    let bytes = b"abcd".to_vec(alloc)?;
+    let mut disk = MemDisk::new(alloc, bytes, 500, Vec::new(alloc), Some(stop))?;
+    let _ran = run_script(&mut disk);
+    Ok(disk.crash(fill))
+}
+
+/// Whether a crash leaves this, where the disk stopped at this call.
+fn leaves(alloc: Global, stop: u64, fill: Fill, wanted: &[u8]) -> Result<bool, AllocError> {
+    let left = crashed_at(alloc, stop, fill)?;
+    Ok(left.as_slice() == wanted)
+}
+
+/// Whether a crash leaves these bytes as read, and these where what was written is 0, 1 or 7.
+fn row_holds(
+    alloc: Global,
+    stop: u64,
+    kept: &[u8],
+    filled: [&[u8]; 3],
+) -> Result<bool, AllocError> {
+    let [zeros, ones, sevens] = filled;
+    Ok(
+        leaves(alloc, stop, Fill::Kept, kept)?
+            && leaves(alloc, stop, Fill::Byte(0), zeros)?
+            && leaves(alloc, stop, Fill::Byte(1), ones)?
+            && leaves(alloc, stop, Fill::Byte(7), sevens)?,
+    )
+}
+
+#[test]
+fn a_stop_at_each_call_leaves_its_row(rt: HostRuntime) -> Result<(), Fail> {
+    let alloc = rt.alloc();
+    assert!(rt;
+        row_holds(alloc, 1, b"abcd", [b"abcd", b"abcd", b"abcd"])?,
+        "attach fails"
+    );
+    assert!(rt;
+        row_holds(alloc, 2, b"XYcd", [b"\0\0cd", b"\x01\x01cd", b"\x07\x07cd"])?,
+        "written"
+    );
+    assert!(rt;
+        row_holds(alloc, 3, b"XYcd", [b"\0\0cd", b"\x01\x01cd", b"\x07\x07cd"])?,
+        "not synced"
+    );
+    assert!(rt;
+        row_holds(alloc, 4, b"XYcd", [b"XYcd", b"XYcd", b"XYcd"])?,
+        "not cut"
+    );
+    assert!(rt;
+        row_holds(alloc, 5, b"XYP", [b"XY\0", b"XY\x01", b"XY\x07"])?,
+        "cut, and written behind"
+    );
+    assert!(rt;
+        row_holds(alloc, 6, b"XYP", [b"XY\0", b"XY\x01", b"XY\x07"])?,
+        "not synced again"
+    );
+    assert!(rt;
+        row_holds(alloc, 7, b"XYP", [b"XYP", b"XYP", b"XYP"])?,
+        "all done"
+    );
     Ok(())
 }
 
