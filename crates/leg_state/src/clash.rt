@@ -12,10 +12,11 @@ ghost use Rattle.eon_model.specs.Legal as legal;
 ghost use Rattle.eon_model.specs.Step.{clashes_with};
 ghost use Rattle.leg_state.specs.Clashes.{may_share_apart, is_clear_apart, clashes_apart, clashes_of, first_clash_of};
 
-use crate::holding::{Span, channel_span, path_span, share_fibre};
+use crate::holding::{Span, share_fibre};
 use crate::leg::Leg;
 use crate::service::Service;
 use crate::services::Services;
+use crate::view::LegView;
 use eon_base::name::Name;
 use eon_model::Class;
 use net_graph::Route;
@@ -28,22 +29,22 @@ fn collide(p: &Route, p_units: &Span, q: &Route, q_units: &Span) -> bool
 }
 
 // Whether the channel of p overlaps neither the channel nor the backup of q.
-fn work_is_clear(p: &Leg, q: &Leg) -> bool
+fn work_is_clear(p: &LegView, q: &LegView) -> bool
     ensures { result ≡ legal.work_is_clear p.now q.now }
 {
-    let units = channel_span(p);
-    let route = &p.work.route;
-    if collide(route, &units, &q.work.route, &channel_span(q)) {
+    let units = p.channel_span();
+    let route = p.work.route;
+    if collide(route, &units, q.work.route, &q.channel_span()) {
         return false;
     }
     match &q.back {
-        Some(back) => !collide(route, &units, &back.route, &path_span(back)),
+        Some(back) => !collide(route, &units, back.route, &back.span()),
         None => true,
     }
 }
 
 // Whether the backups of p and q overlap.
-fn backups_collide(p: &Leg, q: &Leg) -> bool
+fn backups_collide(p: &LegView, q: &LegView) -> bool
     ensures { result ≡ legal.backups_collide p.now q.now }
 {
     let Some(first) = &p.back else {
@@ -52,16 +53,11 @@ fn backups_collide(p: &Leg, q: &Leg) -> bool
     let Some(second) = &q.back else {
         return false;
     };
-    collide(
-        &first.route,
-        &path_span(first),
-        &second.route,
-        &path_span(second),
-    )
+    collide(first.route, &first.span(), second.route, &second.span())
 }
 
 // Whether the backups of the legs of two services may hold the same units.
-fn may_share(class: Class, p: &Leg, other: Class, q: &Leg) -> bool
+fn may_share(class: Class, p: &LegView, other: Class, q: &LegView) -> bool
     ensures { result ≡ may_share_apart class p.now other q.now }
 {
     let shares_risk = p.work.route.risk().meets(&q.work.route.risk());
@@ -69,7 +65,7 @@ fn may_share(class: Class, p: &Leg, other: Class, q: &Leg) -> bool
 }
 
 // Whether the legs of two services are clear.
-fn are_clear(class: Class, p: &Leg, other: Class, q: &Leg) -> bool
+fn are_clear(class: Class, p: &LegView, other: Class, q: &LegView) -> bool
     ensures { result ≡ is_clear_apart class p.now other q.now }
 {
     if !work_is_clear(p, q) || !work_is_clear(q, p) {
@@ -79,20 +75,20 @@ fn are_clear(class: Class, p: &Leg, other: Class, q: &Leg) -> bool
 }
 
 // Whether some leg of the service is not clear with this leg of another one.
-fn disturbs(class: Class, leg: &Leg, service: &Service) -> bool
+fn disturbs(class: Class, leg: &LegView, service: &Service) -> bool
     ensures { result ≡ clashes_apart class leg.now service.now }
 {
-    if !are_clear(class, leg, service.class, &service.leg) {
+    if !are_clear(class, leg, service.class, &service.leg.view()) {
         return true;
     }
     match &service.next {
-        Some(next) => !are_clear(class, leg, service.class, next),
+        Some(next) => !are_clear(class, leg, service.class, &next.view()),
         None => false,
     }
 }
 
 // Whether the service is not the owner of the leg, and clashes with it.
-fn disturbs_other(class: Class, leg: &Leg, owner: &Name, service: &Service) -> bool
+fn disturbs_other(class: Class, leg: &LegView, owner: &Name, service: &Service) -> bool
     ensures { result ≡ clashes_with (owned owner.now class leg.now) service.now }
 {
     if service.is_named(owner) {
@@ -102,7 +98,7 @@ fn disturbs_other(class: Class, leg: &Leg, owner: &Name, service: &Service) -> b
 }
 
 // Whether the service clashes with the leg, of this owner or of no one.
-fn clashes(class: Class, leg: &Leg, owner: Option<&Name>, service: &Service) -> bool
+fn clashes(class: Class, leg: &LegView, owner: Option<&Name>, service: &Service) -> bool
     ensures { result ≡ clashes_of class leg.now (option_copied owner.entry) service.now }
 {
     match owner {
@@ -114,10 +110,10 @@ fn clashes(class: Class, leg: &Leg, owner: Option<&Name>, service: &Service) -> 
 /// The name of the first service in order of admission, other than the owner of the leg, one of whose
 /// legs is not clear with this leg of a service of this class; None exactly where all are. Without an owner
 /// the leg is of no service of the list. It takes no memory.
-pub fn first_clash(
+pub fn first_clash_with(
     services: &Services,
     class: Class,
-    leg: &Leg,
+    leg: &LegView,
     owner: Option<&Name>,
 ) -> Option<Name>
     ensures { result ≡ first_clash_of services.now.list class leg.now (option_copied owner.entry) }
@@ -129,4 +125,16 @@ pub fn first_clash(
         }
     }
     None
+}
+
+/// `first_clash_with` for a leg as it stands or drifts.
+pub fn first_clash(
+    services: &Services,
+    class: Class,
+    leg: &Leg,
+    owner: Option<&Name>,
+) -> Option<Name>
+    ensures { result ≡ first_clash_of services.now.list class leg.now (option_copied owner.entry) }
+{
+    first_clash_with(services, class, &leg.view(), owner)
 }

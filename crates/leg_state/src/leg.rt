@@ -4,6 +4,7 @@ ghost use Rattle.std.specs.Prelude.{◌≡◌, Some, None, IsTrue};
 ghost use Rattle.eon_model.specs.Changes.{path_moved, drifting_to, leg_at_target, backup_at};
 ghost use Rattle.leg_state.specs.Asks.{can_stand, target_can_stand, backup_can_stand};
 
+use crate::view::{LegView, PathView};
 use flex_grid::slot::Slot;
 use net_graph::Route;
 use std::marker::Model;
@@ -30,6 +31,16 @@ impl Model for Path {
 }
 
 impl Path {
+    /// The path as it stands.
+    pub fn view(&self) -> PathView<'_>
+        ensures { result ≡ self.now }
+    {
+        PathView {
+            route: &self.route,
+            slot: self.slot,
+        }
+    }
+
     // The slot of the same width at this centre.
     pub(crate) fn move_to(&mut self, n: i16)
         requires { IsTrue (can_stand self.old n) }
@@ -66,6 +77,27 @@ impl Model for Leg {
 }
 
 impl Leg {
+    /// The leg as it stands or drifts.
+    pub fn view(&self) -> LegView<'_>
+        ensures { result ≡ self.now }
+    {
+        LegView {
+            work: self.work.view(),
+            to: self.to,
+            back: self.back_view(),
+        }
+    }
+
+    /// Its backup, if there is one, as it stands.
+    pub fn back_view(&self) -> Option<PathView<'_>>
+        ensures { result ≡ self.now.back }
+    {
+        match &self.back {
+            Some(back) => Some(back.view()),
+            None => None,
+        }
+    }
+
     // The channel drifts to the centre.
     pub(crate) fn drift_to(&mut self, to: i16)
         ensures { self.new ≡ drifting_to to self.old }

@@ -2,6 +2,7 @@
 
 ghost use Rattle.std.specs.Prelude.{◌≡◌, IsTrue};
 ghost use Rattle.eon_model.specs.Names.{same_name};
+ghost use Rattle.eon_model.specs.Services.{is_moving};
 ghost use Rattle.eon_model.specs.Changes.{drifting_to, with_leg, with_next, finished, undone, backup_at};
 ghost use Rattle.leg_state.specs.Asks.{may_drift, may_finish, may_go_back, may_make, may_refit};
 
@@ -58,6 +59,13 @@ impl Service {
         ensures { result ≡ same_name self.now.name name.now }
     {
         self.name == *name
+    }
+
+    /// Whether its channel drifts, or it has a new leg beside the old one.
+    pub fn is_moving(&self) -> bool
+        ensures { result ≡ is_moving self.now }
+    {
+        self.leg.to.is_some() || self.next.is_some()
     }
 
     // Its channel drifts to the centre.

@@ -1,7 +1,7 @@
 use Rattle.std.proofs.Common.{◌≡◌, drop, find}
 use Rattle.std.specs.Option.{option_copied}
 use Rattle.leg_state.specs.Clashes.{clashes_of}
-use Rattle.leg_state.proofs.clash.first_clash.Given as goal
+use Rattle.leg_state.proofs.clash.first_clash_with.Given as goal
 
 -- no service before this one clashes
 abbrev pub invariant-loop-i : goal.invariant-loop-i

@@ -2,7 +2,7 @@ use Rattle.std.proofs.Common.{◌≤◌, ◌∙◌, sym, length, add-one, arith,
 use Rattle.std.specs.Option.{option_copied}
 use Rattle.leg_state.specs.Clashes.{clashes_of}
 use Rattle.leg_state.proofs.ClashLemmas.{find_past, first_found, first_none}
-use Rattle.leg_state.proofs.clash.first_clash.Goals as goal
+use Rattle.leg_state.proofs.clash.first_clash_with.Goals as goal
 
 pub returns-then-clashes : goal.returns-then-clashes
 returns-then-clashes c =
