@@ -1,7 +1,7 @@
 -- There are at most 256 candidates.
-use Rattle.std.proofs.Common.{ℕ, ◌+◌, ◌*◌, ◌≤◌, ◌≡◌, refl, Bool, true, List, [], ◌∷◌, map, filter, take, length, Option, Some, None, arith, length-append}
+use Rattle.std.proofs.Common.{ℕ, ◌+◌, ◌*◌, ◌≤◌, ◌≡◌, Bool, true, List, [], ◌∷◌, filter, take, length, Option, Some, None, arith, length-append}
 use Rattle.std.specs.List.{filter_map, cons_option, flat_map}
-use Rattle.std.proofs.lemmas.List.{length-take}
+use Rattle.std.proofs.lemmas.List.{length-take, length-map}
 use Rattle.eon_model.specs.declared.Class.{Class}
 use Rattle.eon_model.specs.declared.Class.TheVariants.{Bare, Shared, Dual}
 use Rattle.eon_model.specs.Legal.{Setup}
@@ -25,10 +25,6 @@ length_kept f (x ∷ xs) =
 length_taken : {X : Type 0} (n : ℕ) (xs : List X) → length (take n xs) ≤ n
 length_taken n xs = omega (arith, length-take n xs)
 
-length_each : {X Y : Type 0} (f : X → Y) (xs : List X) → length (map f xs) ≡ length xs
-length_each f [] = refl
-length_each f (x ∷ xs) = let rest = length_each f xs in omega arith
-
 few_flat : {X Y : Type 0} (f : X → List Y) → ((x : X) → length (f x) ≤ 16) → (xs : List X) →
     length (flat_map f xs) ≤ 16 * length xs
 few_flat f few [] = omega arith
@@ -51,11 +47,11 @@ module _ (setup : Setup) (s t rate : ℕ) (ok : is_setup setup ≡ true) where
   few_backed w =
       let backs = routes_within_reach setup s t rate (fails_with setup.network w.route) in
       let few = few_routes (fails_with setup.network w.route) in
-      omega (arith, few, length_each (with_backup w) backs)
+      omega (arith, few, length-map backs (with_backup w))
 
   few_over : (class : Class) (works : List SizedRoute) → length works ≤ 16 →
       length (candidates_over setup s t rate class works) ≤ 256
-  few_over Bare works few = omega (arith, few, length_each alone works)
+  few_over Bare works few = omega (arith, few, length-map works alone)
   few_over Shared works few = omega (arith, few, few_flat (backed setup s t rate) few_backed works)
   few_over Dual works few = omega (arith, few, few_flat (backed setup s t rate) few_backed works)
 

@@ -1,46 +1,21 @@
 -- What the lines before say of the band: its parts, and whether there may be more.
-use Rattle.std.proofs.Common.{◌≡◌, refl, sym, ◌∙◌, ap, ℕ, zero, suc, ◌<◌, ◌≤◌, ◌≤ℤ◌, ℤ, pos, negsuc, ◌+ℤ◌, true, false, ◌&&◌, ◌||◌, not, List, [], ◌∷◌, ◌++◌, length, map, nat_le, nat_eq, Option, Some, None, arith}
+use Rattle.std.proofs.Common.{◌≡◌, refl, sym, ◌∙◌, ap, ℕ, zero, suc, ◌<◌, ◌≤◌, ℤ, pos, ◌+ℤ◌, true, false, ◌&&◌, ◌||◌, not, List, [], ◌∷◌, ◌++◌, length, map, nat_le, nat_eq, Option, Some, None, arith}
 use Rattle.std.specs.Prelude.{int_le}
 use Rattle.std.specs.Option.{is_none, option_map_or, unwrap_or}
 use Rattle.std.specs.List.{list_all}
 use Rattle.std.proofs.lemmas.Bool.{and_parts, both_ways, leb-true, ne_eqb}
-use Rattle.std.proofs.lemmas.Int.{ints}
 use Rattle.eon_model.specs.Grid.{Units, Band, is_units, is_band, span_of}
 use Rattle.eon_model.specs.Numerals.{is_within}
 use Rattle.eon_model.specs.NetworkFault as model
 use Rattle.eon_model.specs.NetworkFault.{Word, Fields, Net, Guard, K, Services, Journal, Node, End, last_word, last_fields, first_fields, may_stand_after, has_parts, band_lines, least_unit, greatest_unit}
-use Rattle.eon_model.proofs.GridLaws.{int_le-le}
 use Rattle.eon_model.proofs.BandLaws.{band-parts}
-use Rattle.eon_model.proofs.SpellingLaws.{IsSmall, number_value-decimal, signed_value-signed_decimal}
+use Rattle.eon_model.proofs.SpellingLaws.{number_value-decimal}
 use Rattle.net_file.specs.Steps.{SoFar, Sheet, parts_of, has_its_parts, may_come}
 use Rattle.net_file.specs.Drafts.{part_line_words, head_at, lines_at, lines_of, rank, BandSoFar, Sound}
-use Rattle.net_file.proofs.LineLists.{parts_with, length_mapped}
+use Rattle.net_file.proofs.LineLists.{parts_with}
 use Rattle.net_file.proofs.LineGrowth.{head_lines}
-
--- ---- units are read back
-
-pub record SmallEnds (part : Units) : Type 0 where
-  pub lo : IsSmall part.lo
-  pub hi : IsSmall part.hi
-
-small : (a b : ℤ) → negsuc 4095 ≤ℤ a → a ≤ℤ b → b ≤ℤ pos 4095 → IsSmall a × IsSmall b
-small (pos a) (pos b) l m h = (omega (arith, ints), omega (arith, ints))
-small (pos a) (negsuc b) l m h = absurd (omega (arith, ints))
-small (negsuc a) (pos b) l m h = (omega (arith, ints), omega (arith, ints))
-small (negsuc a) (negsuc b) l m h = (omega (arith, ints), omega (arith, ints))
-
-pub small-ends : (part : Units) → is_units part ≡ true → SmallEnds part
-small-ends part h =
-    let u = and_parts (int_le (negsuc 4095) part.lo && int_le part.lo part.hi) (int_le part.hi (pos 4095)) h in
-    let v = and_parts (int_le (negsuc 4095) part.lo) (int_le part.lo part.hi) u.0 in
-    let ends = small part.lo part.hi (int_le-le _ _ v.0) (int_le-le _ _ v.1) (int_le-le _ _ u.1) in
-    record { lo = ends.0; hi = ends.1 }
-
-pub least-read : (part : Units) → is_units part ≡ true → least_unit (part_line_words part) ≡ part.lo
-least-read part h = signed_value-signed_decimal part.lo (small-ends part h).lo
-
-pub greatest-read : (part : Units) → is_units part ≡ true → greatest_unit (part_line_words part) ≡ part.hi
-greatest-read part h = signed_value-signed_decimal part.hi (small-ends part h).hi
+use Rattle.std.proofs.lemmas.List.{length-map}
+use Rattle.eon_model.proofs.TextNumbers.{least-read, greatest-read}
 
 -- ---- what the lines before say
 
@@ -102,7 +77,7 @@ its-parts earlier s model.Band b =
     (λ i. nat_eq (length (b.lines i)) 0 || b.many i) ∙ ap (λ v. v || nat_eq s.version 2) (none_told s.band b.good)
 its-parts earlier s Guard b =
     (λ i. not (b.many i) || nat_le 2 (length (b.lines i)))
-    ∙ ap (λ n. not (nat_eq s.version 2) || nat_le 2 n) (length_mapped part_line_words (parts_of s.band))
+    ∙ ap (λ n. not (nat_eq s.version 2) || nat_le 2 n) (length-map (parts_of s.band) part_line_words)
 its-parts earlier s K b = refl
 its-parts earlier s Services b = refl
 its-parts earlier s Journal b = refl

@@ -19,7 +19,8 @@ use Rattle.net_file.specs.LineWords.{capped_signed, band_words}
 use Rattle.net_file.specs.Steps.{units_between, leaves_room}
 use Rattle.net_file.specs.Drafts.{part_line_words}
 use Rattle.net_file.proofs.BandLines.{Before, floor-told}
-use Rattle.net_file.proofs.FrontParts.{form_of, ranges_of, and_more, through, is_value, ReadsAs}
+use Rattle.net_file.proofs.FrontParts.{form_of, ranges_of, and_more, through, ReadsAs}
+use Rattle.eon_model.proofs.TextNumbers.{some_is}
 
 abbrev cap_signed : ℤ → ℤ
 cap_signed z = cond (nat_lt (nat_abs z) (2 ^ 63)) z (pos (2 ^ 63 - 1))
@@ -162,7 +163,7 @@ record TwoRead (done : Bool) (x y : List ℕ) (ends : ℤ × ℤ) : Type 0 where
 
 two_made : (done : Bool) (x y : List ℕ) (ends : ℤ × ℤ) → is_signed x ≡ true → is_signed y ≡ true →
     made_ends done (cap_signed (signed_value x)) (cap_signed (signed_value y)) ≡ Some ends → TwoRead done x y ends
-two_made true x y ends hx hy e = record { all = refl; x_is = hx; y_is = hy; is = is_value _ ends e }
+two_made true x y ends hx hy e = record { all = refl; x_is = hx; y_is = hy; is = some_is _ ends e }
 two_made false x y ends hx hy e = cc
 
 two_read : (done : Bool) (x y : List ℕ) (ends : ℤ × ℤ) → two done x y ≡ Some ends → TwoRead done x y ends

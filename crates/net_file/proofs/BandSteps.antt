@@ -2,7 +2,7 @@
 use Rattle.std.proofs.Common.{◌≡◌, refl, sym, ◌∙◌, ap, subst, ℕ, zero, suc, ◌≤◌, ℤ, pos, ◌+ℤ◌, ◌-ℤ◌, Bool, true, false, cond, ◌&&◌, ◌||◌, not, List, [], ◌∷◌, ◌++◌, length, map, nat_le, nat_eq, Option, Some, None, Result, Ok, Err, arith}
 use Rattle.std.specs.Prelude.{codes, int_le}
 use Rattle.std.specs.Option.{option_map, option_map_or, is_none}
-use Rattle.std.proofs.lemmas.List.{append-nil, map-append, length-append}
+use Rattle.std.proofs.lemmas.List.{append-nil, map-append, length-append, length-map}
 use Rattle.std.proofs.lemmas.Bool.{and_parts, and_from, leb-false, not-false, both_ways}
 use Rattle.eon_model.specs.Grid as grid
 use Rattle.eon_model.specs.Grid.{Units, is_units, is_band, span_of}
@@ -17,11 +17,11 @@ use Rattle.net_file.specs.LineWords.{band_words, ranged}
 use Rattle.net_file.specs.Steps.{SoFar, Sheet, on_ok, unless_fault, told_by, units_between, parts_of, leaves_room, is_in_reach, touches, if_band, with_part, part_step, has_its_parts, may_come, setup_step, units_step, band_step}
 use Rattle.net_file.specs.Drafts.{number_words, part_line_words, head_at, rank, lines_of, PartsSoFar, Sound}
 use Rattle.net_file.proofs.CauseParts.{behind}
-use Rattle.net_file.proofs.BandLines.{GoodBand, Before, before, least-read, end-told}
+use Rattle.net_file.proofs.BandLines.{GoodBand, Before, before, end-told}
 use Rattle.net_file.proofs.BandParts.{band_rest, band_reads, is_part_at}
-use Rattle.net_file.proofs.LineLists.{length_mapped}
 use Rattle.net_file.proofs.RankLaws.{come-far}
 use Rattle.net_file.proofs.StepParts.{Takes, Follows, nested, line-takes, checked, head-follows}
+use Rattle.eon_model.proofs.TextNumbers.{least-read}
 
 -- ---- a part of the band
 
@@ -190,7 +190,7 @@ behind_band earlier version band b ends units =
     let part = units_between ends in
     let low = least-read part units in
     let many : nat_le 8 (length (band_lines earlier)) ≡ nat_le 8 (length (parts_of band)) =
-    ap (λ (v : List Fields). nat_le 8 (length v)) b.lines ∙ ap (nat_le 8) (length_mapped part_line_words (parts_of band)) in
+    ap (λ (v : List Fields). nat_le 8 (length v)) b.lines ∙ ap (nat_le 8) (length-map (parts_of band) part_line_words) in
     let order : is_too_low earlier (part_line_words part) ≡ touch_at band part.lo =
     ap (λ (z : ℤ). option_map_or (λ last. not (int_le (greatest_unit last +ℤ pos 2) z)) (last_fields (band_lines earlier)) false) low
     ∙ low_told earlier version band b part.lo in

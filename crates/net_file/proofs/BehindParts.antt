@@ -16,7 +16,8 @@ use Rattle.net_file.specs.Told.{why_told}
 use Rattle.net_file.specs.Steps.{SoFar, format_why, graph_whys}
 use Rattle.net_file.specs.Drafts.{lines_at, format_line_words, node_line_words, fibre_line_words}
 use Rattle.net_file.proofs.CauseParts.{behind}
-use Rattle.net_file.proofs.LineLists.{formats_with, nodes_with, fibres_with, names_mapped, last_compared, length_mapped}
+use Rattle.net_file.proofs.LineLists.{formats_with, nodes_with, fibres_with, names_mapped, last_compared}
+use Rattle.std.proofs.lemmas.List.{length-map}
 
 -- ---- formats
 
@@ -32,7 +33,7 @@ pub behind-format : (far : ℕ) (s : SoFar) (name : Name) (rest : Fields) →
 behind-format far s name rest =
     let lines = formats_with far s in
     let many : nat_le 64 (length (lines_with (lines_at far s) (codes "format"))) ≡ nat_le 64 (length s.formats) =
-    ap (λ (ls : List Fields). nat_le 64 (length ls)) lines ∙ ap (nat_le 64) (length_mapped format_line_words s.formats) in
+    ap (λ (ls : List Fields). nat_le 64 (length ls)) lines ∙ ap (nat_le 64) (length-map s.formats format_line_words) in
     let twice : has_name (names_with (lines_at far s) (codes "format")) name ≡ has_name (format_names s.formats) name =
     ap (λ (ls : List Fields). has_name (map (λ (fields : Fields). field_at fields 1) ls) name) lines
     ∙ ap (λ (names : List Name). has_name names name)
@@ -66,7 +67,7 @@ behind-node far s name rest =
     let earlier = lines_at far s in
     let fields = codes "node" ∷ name ∷ rest in
     let many : is_many earlier Node fields ≡ nat_le 64 (length nodes) =
-    ap (λ (ls : List Fields). nat_le 64 (length ls)) lines ∙ ap (nat_le 64) (length_mapped node_line_words nodes) in
+    ap (λ (ls : List Fields). nat_le 64 (length ls)) lines ∙ ap (nat_le 64) (length-map nodes node_line_words) in
     let order : is_out_of_order earlier Node fields ≡ not (comes_after nodes name) =
     ap (λ (ls : List Fields). not_above ls name) lines
     ∙ last_compared node_line_words (λ (n : Name). n) (λ x. refl) nodes name
@@ -107,7 +108,7 @@ behind-fibre far s name a b rest =
     let fields = codes "fibre" ∷ name ∷ a ∷ b ∷ rest in
     let many : is_many earlier model.Fibre fields ≡ nat_le 128 (length net.fibres) =
     ap (λ (ls : List Fields). nat_le 128 (length ls)) lines
-    ∙ ap (nat_le 128) (length_mapped (fibre_line_words nodes) net.fibres) in
+    ∙ ap (nat_le 128) (length-map net.fibres (fibre_line_words nodes)) in
     let order : is_out_of_order earlier model.Fibre fields ≡ not (comes_after (fibre_names net.fibres) name) =
     ap (λ (ls : List Fields). not_above ls name) lines
     ∙ last_compared (fibre_line_words nodes) (λ (f : Fibre). f.name) (λ x. refl) net.fibres name in

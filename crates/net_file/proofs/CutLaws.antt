@@ -10,6 +10,7 @@ use Rattle.eon_model.specs.Spelling.{fields_of, field_before}
 use Rattle.eon_model.specs.NetworkFault.{whole_lines, with_byte}
 use Rattle.net_file.specs.Cut.{cut_at}
 use Rattle.net_file.specs.Readings.{is_nil, has_nothing}
+use Rattle.eon_model.proofs.WholeLines.{line_first}
 
 abbrev pub parts : List ℕ → ℕ → List ℕ × List ℕ
 parts xs i = (take i xs, drop (i + 1) xs)
@@ -105,9 +106,6 @@ fields-uncut (x ∷ xs) h = fields_uncut (x == 32) x xs (cut_at 32 xs) refl h (f
 
 abbrev pub Lines : Type 0
 Lines = List (List ℕ) × List ℕ
-
-abbrev pub line_first : List ℕ → Lines → Lines
-line_first l t = (l ∷ t.0, t.1)
 
 lines_cut : (b : Bool) (x : ℕ) (xs : List ℕ) (o : Option (List ℕ × List ℕ)) (p : List ℕ × List ℕ) →
     cut_at 10 xs ≡ o → cond b (Some (parts (x ∷ xs) 0)) (option_map (behind x) o) ≡ Some p →

@@ -11,8 +11,9 @@ use Rattle.eon_model.specs.NetworkFault as model
 use Rattle.net_file.specs.declared.line_words.FibreWords.{FibreWords}
 use Rattle.net_file.specs.LineWords.{capped, fibre_words}
 use Rattle.net_file.specs.Steps.{has_fibre_range, is_any, group_words}
-use Rattle.net_file.proofs.FrontParts.{matches, form_of, ranges_of, and_more, through, is_value, ReadsAs}
+use Rattle.net_file.proofs.FrontParts.{matches, form_of, ranges_of, and_more, through, ReadsAs}
 use Rattle.net_file.proofs.NumberParts.{cap, capped_range, capped_spelled}
+use Rattle.eon_model.proofs.TextNumbers.{some_is}
 
 -- ---- fibres
 
@@ -64,7 +65,7 @@ record FourRead (done : Bool) (x y z u : List ℕ) (f : FibreWords) : Type 0 whe
 four_made : (done : Bool) (x y z u : List ℕ) (f : FibreWords) → is_number u ≡ true →
     made_fibre done x y z (cap (number_value u)) ≡ Some f → FourRead done x y z u f
 four_made true x y z u f hu e =
-    let is = is_value (record { name = x; a = y; b = z; km = cap (number_value u) }) f e in
+    let is = some_is (record { name = x; a = y; b = z; km = cap (number_value u) }) f e in
     record {
       all = refl;
       u_is = hu;
@@ -177,7 +178,7 @@ is_read true g = refl
 is_read false g = refl
 
 read_is : (b : Bool) (g h : Name × List Name) → cond b (Some g) None ≡ Some h → g ≡ h
-read_is true g h e = is_value g h e
+read_is true g h e = some_is g h e
 read_is false g h e = cc
 
 and_false : (b : Bool) → (b && false) ≡ false

@@ -74,9 +74,6 @@ pub through : {A B : Type 0} (b : Bool) (v : A) (f : A → Option B) (y : B) →
 through true v f y e = (refl, e)
 through false v f y e = cc
 
-pub is_value : {A : Type 0} (x y : A) → Some x ≡ Some y → x ≡ y
-is_value x y e = cc
-
 -- What the fields behind a word are read as: something exactly where they have the form, in range exactly where the
 -- value passes, and then they are its spelling.
 pub record ReadsAs {A : Type 0} (earlier : List Fields) (w : Word) (word : List ℕ) (rest : Fields) (o : Option A) (test : A → Bool)

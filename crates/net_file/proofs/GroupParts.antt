@@ -24,8 +24,10 @@ use Rattle.net_file.specs.Told.{why_told}
 use Rattle.net_file.specs.Steps.{SoFar, graph_whys}
 use Rattle.net_file.specs.Drafts.{lines_at, fibre_line_words, group_line_words}
 use Rattle.net_file.proofs.CauseParts.{behind}
-use Rattle.net_file.proofs.LineLists.{fibres_with, groups_with_word, names_mapped, last_compared, length_mapped}
+use Rattle.net_file.proofs.LineLists.{fibres_with, groups_with_word, names_mapped, last_compared}
 use Rattle.net_file.proofs.BehindParts.{not_above, unknown_name}
+use Rattle.std.proofs.lemmas.List.{length-map}
+use Rattle.eon_model.proofs.NameLaws.{list_any_alike}
 
 -- ---- a fibre among the fibres of a group, by name and by number
 
@@ -124,10 +126,6 @@ group_cases false true true false true ninth full e = refl
 group_cases false true true false false ninth true e = λ i. cond (e refl i) (Some model.Groups) None
 group_cases false true true false false ninth false e = λ i. cond (e refl i) (Some model.Groups) None
 
-any_same : {X : Type 0} (p q : X → Bool) → ((x : X) → p x ≡ q x) → (xs : List X) → list_any p xs ≡ list_any q xs
-any_same p q same [] = refl
-any_same p q same (x ∷ xs) = λ i. same x i || any_same p q same xs i
-
 pub behind-group : (far : ℕ) (s : SoFar) → is_graph s.network ≡ true → (name : Name) (members : List Name) →
     behind (lines_at far s) model.Group (codes "group" ∷ name ∷ members)
     ≡ option_map why_told (graph_whys (group_fault s.network name members))
@@ -138,7 +136,7 @@ behind-group far s graph name members =
     let fields = codes "group" ∷ name ∷ members in
     let many : is_many earlier model.Group fields ≡ nat_le 128 (length net.groups) =
     ap (λ (ls : List Fields). nat_le 128 (length ls)) lines
-    ∙ ap (nat_le 128) (length_mapped (group_line_words net.fibres) net.groups) in
+    ∙ ap (nat_le 128) (length-map net.groups (group_line_words net.fibres)) in
     let order : not_above (lines_with earlier (codes "group")) name ≡ not (comes_after (group_names net.groups) name) =
     ap (λ (ls : List Fields). not_above ls name) lines
     ∙ last_compared (group_line_words net.fibres) (λ (g : Group). g.name) (λ x. refl) net.groups name in
@@ -146,7 +144,7 @@ behind-group far s graph name members =
     ap (map (λ (fields : Fields). field_at fields 1)) (fibres_with far s)
     ∙ names_mapped (fibre_line_words net.nodes) (λ (f : Fibre). f.name) (λ x. refl) net.fibres in
     let unknown : has_unknown earlier model.Group fields ≡ list_any (λ f. is_none (fibre_of net f)) members =
-    any_same _ _ (λ f. ap (λ (ns : List Name). not (has_name ns f)) names ∙ unknown_name (fibre_names net.fibres) f) members in
+    list_any_alike _ _ (λ f. ap (λ (ns : List Name). not (has_name ns f)) names ∙ unknown_name (fibre_names net.fibres) f) members in
     let ninth : is_in_a_ninth earlier model.Group fields
     ≡ list_any (λ f. nat_le 8 (count_by (λ (fields : Fields). has_name (drop 2 fields) f)
     (map (group_line_words net.fibres) net.groups))) members =

@@ -22,17 +22,6 @@ pub mod GroupSteps
 pub mod LineLaws
 pub mod SetupParts
 pub mod ReadLaws
-pub mod TextCauses
-pub mod TextClean
-pub mod TextLists
-pub mod TextLast
-pub mod TextNumbers
-pub mod TextBand
-pub mod TextFront
-pub mod TextKinds
-pub mod TextGroups
-pub mod TextNetworks
-pub mod TextWhole
 pub mod TextRuns
 pub mod TextGoesOn
 pub mod PrintNumbers

@@ -1,5 +1,5 @@
 -- Which of the lines that have told a sheet begin with a word.
-use Rattle.std.proofs.Common.{◌≡◌, refl, sym, ◌∙◌, ap, ℕ, zero, suc, ◌-◌, Bool, true, false, cond, not, List, [], ◌∷◌, ◌++◌, ◌<◌, arith, length, map, filter, take, nat_lt}
+use Rattle.std.proofs.Common.{◌≡◌, refl, sym, ◌∙◌, ap, ℕ, zero, suc, ◌-◌, Bool, true, false, cond, not, List, [], ◌∷◌, ◌++◌, ◌<◌, arith, map, filter, take, nat_lt}
 use Rattle.std.specs.Prelude.{codes}
 use Rattle.std.specs.Option.{option_map_or}
 use Rattle.std.proofs.lemmas.List.Elements.{filter-append}
@@ -12,6 +12,7 @@ use Rattle.eon_model.specs.NetworkFault.{Fields, field_at, has_word, lines_with,
 use Rattle.net_graph.specs.Graph.{comes_after}
 use Rattle.net_file.specs.Steps.{SoFar, parts_of}
 use Rattle.net_file.specs.Drafts.{format_line_words, node_line_words, fibre_line_words, group_line_words, number_words, part_line_words, limit_words, head_at, end_words, lines_at}
+use Rattle.std.proofs.lemmas.List.{append-nil}
 
 -- ---- parts of a list
 
@@ -58,10 +59,6 @@ module _ {X : Type 0} (p : X → Bool) where
   six_kept a b c d e f va vb vc vd ve vf ha hb hc hd he hf =
       parts_kept a b c d e f ∙ (λ i. ((ha i ++ hb i) ++ ((hc i ++ hd i) ++ he i)) ++ hf i)
 
-nothing_more : {X : Type 0} (xs : List X) → xs ++ [] ≡ xs
-nothing_more [] = refl
-nothing_more (x ∷ xs) = ap (λ v. x ∷ v) (nothing_more xs)
-
 -- ---- the first lines and the last
 
 end_dropped : (p : Fields → Bool) → p (codes "end" ∷ []) ≡ false → (far : ℕ) → filter p (end_words far) ≡ []
@@ -105,7 +102,7 @@ formats_with far s =
     (none_kept p node_line_words (λ y. refl) net.nodes)
     (none_kept p (fibre_line_words net.nodes) (λ y. refl) net.fibres)
     (none_kept p (group_line_words net.fibres) (λ y. refl) net.groups) (end_dropped p refl far)
-    ∙ nothing_more (map format_line_words s.formats ++ []) ∙ nothing_more (map format_line_words s.formats)
+    ∙ append-nil (map format_line_words s.formats ++ []) ∙ append-nil (map format_line_words s.formats)
 
 pub nodes_with : (far : ℕ) (s : SoFar) → lines_with (lines_at far s) (codes "node") ≡ map node_line_words s.network.nodes
 unfolding lines_at
@@ -121,7 +118,7 @@ nodes_with far s =
     (all_kept p node_line_words (λ y. refl) net.nodes)
     (none_kept p (fibre_line_words net.nodes) (λ y. refl) net.fibres)
     (none_kept p (group_line_words net.fibres) (λ y. refl) net.groups) (end_dropped p refl far)
-    ∙ nothing_more ((kept ++ []) ++ []) ∙ nothing_more (kept ++ []) ∙ nothing_more kept
+    ∙ append-nil ((kept ++ []) ++ []) ∙ append-nil (kept ++ []) ∙ append-nil kept
 
 pub fibres_with : (far : ℕ) (s : SoFar) → lines_with (lines_at far s) (codes "fibre")
     ≡ map (fibre_line_words s.network.nodes) s.network.fibres
@@ -138,7 +135,7 @@ fibres_with far s =
     (none_kept p node_line_words (λ y. refl) net.nodes)
     (all_kept p (fibre_line_words net.nodes) (λ y. refl) net.fibres)
     (none_kept p (group_line_words net.fibres) (λ y. refl) net.groups) (end_dropped p refl far)
-    ∙ nothing_more (kept ++ []) ∙ nothing_more kept
+    ∙ append-nil (kept ++ []) ∙ append-nil kept
 
 pub groups_with_word : (far : ℕ) (s : SoFar) → lines_with (lines_at far s) (codes "group")
     ≡ map (group_line_words s.network.fibres) s.network.groups
@@ -155,7 +152,7 @@ groups_with_word far s =
     (none_kept p node_line_words (λ y. refl) net.nodes)
     (none_kept p (fibre_line_words net.nodes) (λ y. refl) net.fibres)
     (all_kept p (group_line_words net.fibres) (λ y. refl) net.groups) (end_dropped p refl far)
-    ∙ nothing_more kept
+    ∙ append-nil kept
 
 -- those of the band
 pub parts_with : (far : ℕ) (s : SoFar) → lines_with (lines_at far s) (codes "band")
@@ -171,12 +168,12 @@ parts_with far s =
     kept [] [] [] [] []
     (head_kept p far s [] kept [] (none_taken p far (number_words (codes "net") s.version ∷ []) refl)
     (all_kept p part_line_words (λ y. refl) (parts_of s.band)) (none_taken p (far - 2) (limit_words s) refl)
-    ∙ nothing_more kept)
+    ∙ append-nil kept)
     (none_kept p format_line_words (λ y. refl) s.formats)
     (none_kept p node_line_words (λ y. refl) net.nodes)
     (none_kept p (fibre_line_words net.nodes) (λ y. refl) net.fibres)
     (none_kept p (group_line_words net.fibres) (λ y. refl) net.groups) (end_dropped p refl far)
-    ∙ nothing_more ((kept ++ []) ++ []) ∙ nothing_more (kept ++ []) ∙ nothing_more kept
+    ∙ append-nil ((kept ++ []) ++ []) ∙ append-nil (kept ++ []) ∙ append-nil kept
 
 -- no line with a number has come before its turn
 pub none_yet : (word : List ℕ) (far : ℕ) (s : SoFar) →
@@ -232,7 +229,3 @@ pub last_compared : {X : Type 0} (words : X → Fields) (key : X → Name) → (
 last_compared words key h [] name = refl
 last_compared words key h (x ∷ []) name = ap (λ (k : Name). not (is_above name k)) (h x)
 last_compared words key h (x ∷ y ∷ xs) name = last_compared words key h (y ∷ xs) name
-
-pub length_mapped : {X Y : Type 0} (f : X → Y) (xs : List X) → length (map f xs) ≡ length xs
-length_mapped f [] = refl
-length_mapped f (x ∷ xs) = ap suc (length_mapped f xs)

@@ -11,8 +11,9 @@ use Rattle.eon_model.specs.NetworkFault as model
 use Rattle.net_file.specs.declared.line_words.FormatWords.{FormatWords}
 use Rattle.net_file.specs.LineWords.{capped, format_words, node_words}
 use Rattle.net_file.specs.Steps.{has_format_ranges, is_any}
-use Rattle.net_file.proofs.FrontParts.{form_of, ranges_of, and_more, through, is_value, ReadsAs}
+use Rattle.net_file.proofs.FrontParts.{form_of, ranges_of, and_more, through, ReadsAs}
 use Rattle.net_file.proofs.NumberParts.{cap, capped_range, capped_spelled}
+use Rattle.eon_model.proofs.TextNumbers.{some_is}
 
 -- ---- nodes
 
@@ -31,7 +32,7 @@ node_reads earlier word (x ∷ []) = record {
       ∙ and_more (is_name x) x (λ (name : Name). then_some true name) true refl;
   ranges = λ a e. ranges_of earlier Node (AName ∷ []) word (x ∷ []) refl;
   spelled = λ a e t. let p = through (is_name x) x (λ (name : Name). then_some true name) a e in
-      ap (λ (b : List ℕ). b ∷ []) (is_value x a p.1);
+      ap (λ (b : List ℕ). b ∷ []) (some_is x a p.1);
 }
 node_reads earlier word (x ∷ y ∷ rest) = record {
   form = form_of Node (AName ∷ []) word (x ∷ y ∷ rest) refl
@@ -86,7 +87,7 @@ record ThreeRead (done : Bool) (x y z : List ℕ) (f : FormatWords) : Type 0 whe
 three_made : (done : Bool) (x y z : List ℕ) (f : FormatWords) → is_number y ≡ true → is_number z ≡ true →
     made_format done x (cap (number_value y)) (cap (number_value z)) ≡ Some f → ThreeRead done x y z f
 three_made true x y z f hy hz e =
-    let is = is_value (record { name = x; reach = cap (number_value y); per = cap (number_value z) }) f e in
+    let is = some_is (record { name = x; reach = cap (number_value y); per = cap (number_value z) }) f e in
     record {
       all = refl;
       y_is = hy;

@@ -9,7 +9,8 @@ use Rattle.eon_model.specs.NetworkFault.{Word, Fields, ANumber, fields_after, un
 use Rattle.eon_base.specs.Numbers.{number_of}
 use Rattle.eon_base.proofs.OneSpellingLaws.{one_spelling}
 use Rattle.net_file.specs.LineWords.{capped, one_number}
-use Rattle.net_file.proofs.FrontParts.{form_of, ranges_of, and_more, through, is_value, ReadsAs}
+use Rattle.net_file.proofs.FrontParts.{form_of, ranges_of, and_more, through, ReadsAs}
+use Rattle.eon_model.proofs.TextNumbers.{some_is}
 
 -- ---- a capped number
 
@@ -65,7 +66,7 @@ module _ (w : Word) (least most : ℕ) (after : (n : ℕ) → fields_after w n �
       (is_number x ≡ true) × (cap (number_value x) ≡ n)
   value_of x n e =
       let p = through (is_number x) (cap (number_value x)) (λ n. then_some true n) n e in
-      (p.0, is_value (cap (number_value x)) n p.1)
+      (p.0, some_is (cap (number_value x)) n p.1)
 
   pub number_reads : (earlier : List Fields) (word : List ℕ) (rest : Fields) →
       ReadsAs earlier w word rest (one_number rest) (is_within least most) one

@@ -1,5 +1,5 @@
 -- A named group's name and members, as the network tells them by risk numbers.
-use Rattle.std.proofs.Common.{◌≡◌, refl, ◌∙◌, ap, ℕ, zero, suc, ◌+◌, ◌<◌, Bool, true, false, cond, ◌||◌, not, ◌&&◌, List, [], ◌∷◌, ◌++◌, length, nat_eq, nat_lt, nat_le, zero-add, arith}
+use Rattle.std.proofs.Common.{◌≡◌, refl, ◌∙◌, ap, ℕ, zero, suc, ◌+◌, ◌<◌, Bool, true, false, cond, ◌||◌, not, ◌&&◌, List, [], ◌∷◌, length, nat_eq, nat_lt, nat_le, arith}
 use Rattle.std.specs.List.{list_all}
 use Rattle.std.specs.FinSet.{contains}
 use Rattle.std.proofs.lemmas.Bool.{and_parts, or_from, ltb-true, eq-eqb, ne_eqb}
@@ -16,7 +16,8 @@ use Rattle.net_graph.proofs.GraphParts.{parts_of}
 use Rattle.net_file.specs.PrintWords.{each_below, group_at, member_text}
 use Rattle.line_writer.specs.Words.{behind}
 use Rattle.net_file.proofs.PrintNumbers.{below-some, behind-map}
-use Rattle.net_file.proofs.TextGroups.{in_list}
+use Rattle.eon_model.proofs.TextGroups.{in_list}
+use Rattle.eon_model.proofs.NamePlaceLaws.{name_at-past}
 
 -- ---- fibres
 
@@ -44,12 +45,6 @@ ends-below net i g l =
 
 -- ---- names of groups
 
-past_front : (names more : List Name) (j : ℕ) → name_at (names ++ more) (length names + j) ≡ name_at more j
-past_front [] more j = ap (name_at more) (zero-add j)
-past_front (n ∷ names) more j =
-    let e : length (n ∷ names) + j ≡ suc (length names + j) = omega arith in
-    ap (name_at ((n ∷ names) ++ more)) e ∙ past_front names more j
-
 group_named : (gs : List Group) (j : ℕ) → name_at (group_names gs) j ≡ (group_at gs j).name
 group_named [] j = refl
 group_named (g ∷ gs) zero = refl
@@ -61,7 +56,7 @@ pub risk-name-group : (net : Network) (risk j : ℕ) → risk ≡ length net.fib
 risk-name-group net risk j e =
     let n = length_names net.fibres in
     let same : risk ≡ length (fibre_names net.fibres) + j = omega arith in
-    ap (name_at (risk_names net)) same ∙ past_front (fibre_names net.fibres) (group_names net.groups) j
+    ap (name_at (risk_names net)) same ∙ name_at-past (fibre_names net.fibres) (group_names net.groups) j
     ∙ group_named net.groups j
 
 -- ---- members

@@ -4,7 +4,7 @@ use Rattle.std.specs.Prelude.{codes, int_le, ◌-ℤ◌, pos}
 use Rattle.std.specs.List.{list_all}
 use Rattle.std.specs.Bool.{then_some}
 use Rattle.std.specs.Option.{option_map, option_or, option_map_or}
-use Rattle.std.proofs.lemmas.List.{append-nil, length-append}
+use Rattle.std.proofs.lemmas.List.{append-nil, length-append, length-map}
 use Rattle.std.proofs.lemmas.Bool.{and_parts, leb-true, lt-ltb}
 use Rattle.eon_model.specs.Grid.{Band, is_units, parts_ascend, span_of}
 use Rattle.eon_model.specs.Names.{differ}
@@ -16,7 +16,7 @@ use Rattle.eon_model.proofs.NetworkTextLaws.{setup_words, text_words}
 use Rattle.reach_table.specs.Tables.{format_names, are_rows}
 use Rattle.net_graph.proofs.GraphParts.{parts_of as graph_parts}
 use Rattle.net_file.specs.Readings.{is_nil, has_nothing}
-use Rattle.net_file.proofs.SplitText.{spaced-fields, text_of, lines-text, text-spaced}
+use Rattle.net_file.proofs.SplitText.{spaced-fields, text-spaced}
 use Rattle.net_file.specs.declared.fault.Why.{Why}
 use Rattle.net_file.specs.declared.fault.Why.TheVariants as why
 use Rattle.net_file.specs.declared.fault.NetRefusal.{NetRefusal}
@@ -25,11 +25,11 @@ use Rattle.net_file.specs.declared.fault.LineFault.TheVariants as fault
 use Rattle.net_file.specs.Told.{why_told, IsRefusalOf, refusal_at}
 use Rattle.net_file.specs.Steps.{SoFar, Sheet, IsFaultOf, parts_of, setup_told, has_end, word_step, line_step}
 use Rattle.net_file.specs.Drafts.{blank, number_words, part_line_words, format_line_words, node_line_words, fibre_line_words, group_line_words, limit_words, net_words, end_words, head_at, lines_at, lines_of, rank, BandSoFar, Sound}
-use Rattle.net_file.proofs.LineLists.{length_mapped}
 use Rattle.net_file.proofs.RankLaws.{ended-far}
 use Rattle.net_file.proofs.StepParts.{Takes, Grows}
 use Rattle.net_file.proofs.LineLaws.{line-law}
 use Rattle.net_file.proofs.SetupParts.{whole-band, setup-whole}
+use Rattle.eon_model.proofs.WholeLines.{text_of, lines-text}
 
 -- Where the reader stands: after the lines that told the sheet, and before these lines and what follows them.
 pub record IsAt (bytes : List ℕ) (s : Sheet) (number : ℕ) (left : List (List ℕ) × List ℕ) : Type 0 where
@@ -204,11 +204,11 @@ few_lines s sound =
     let c = few_taken (far - 2) (limit_words t) in
     let d = few_rows t.formats sound.ranges.rows in
     let e = few_ends far in
-    let f = length_mapped part_line_words (parts_of t.band) in
-    let g = length_mapped format_line_words t.formats in
-    let h = length_mapped node_line_words t.network.nodes in
-    let i = length_mapped (fibre_line_words t.network.nodes) t.network.fibres in
-    let j = length_mapped (group_line_words t.network.fibres) t.network.groups in
+    let f = length-map (parts_of t.band) part_line_words in
+    let g = length-map t.formats format_line_words in
+    let h = length-map t.network.nodes node_line_words in
+    let i = length-map t.network.fibres (fibre_line_words t.network.nodes) in
+    let j = length-map t.network.groups (group_line_words t.network.fibres) in
     let k = graph.nodes_few in
     let l = graph.fibres_few in
     let m = graph.groups_few in
@@ -229,8 +229,8 @@ at-few bytes s number left at =
     let f = few_lines s at.sound in
     let t = ap length at.told in
     let u = length-append (lines_of s) (map fields_of left.0) in
-    let v = length_mapped fields_of left.0 in
-    let w = length_mapped fields_of (whole_lines bytes).0 in
+    let v = length-map left.0 fields_of in
+    let w = length-map (whole_lines bytes).0 fields_of in
     omega arith
 
 -- ---- the end of the text

@@ -6,7 +6,7 @@ use Rattle.eon_model.specs.NetworkFault as model
 use Rattle.net_file.specs.declared.fault.NetRefusal.{NetRefusal}
 use Rattle.net_file.specs.declared.fault.NetRefusal.TheVariants as refusal
 use Rattle.net_file.specs.Told.{fault_told, IsRefusalOf}
-use Rattle.net_file.proofs.TextWhole.{texts-have-no-fault}
+use Rattle.eon_model.proofs.TextWhole.{texts-have-no-fault}
 
 none_is : (f : ℕ × model.Why) → None ≡ Some f → ⊥
 none_is f e = cc

@@ -21,16 +21,18 @@ use Rattle.eon_model.proofs.GridLaws.{int_le-le, le-int_le}
 use Rattle.eon_model.proofs.BandLaws.{band-parts}
 use Rattle.eon_model.proofs.NetworkTextLaws.{setup_words, text_words}
 use Rattle.flex_grid.proofs.BandFacts.{is_with}
-use Rattle.net_file.specs.TextLaws.{TextsCanGoOn}
+use Rattle.eon_model.specs.NetworkTextLaws.{TextsCanGoOn}
 use Rattle.net_file.specs.Steps.{SoFar, Sheet, parts_of, setup_told, has_end}
 use Rattle.net_file.specs.Drafts.{number_words, part_line_words, format_line_words, node_line_words, fibre_line_words, group_line_words, limit_words, net_words, head_at, lines_at, lines_of, rank, PartsSoFar, BandSoFar, Sound}
-use Rattle.net_file.proofs.SplitText.{text_of, spaced-fields, lines-text, text-spaced}
+use Rattle.net_file.proofs.SplitText.{spaced-fields, text-spaced}
 use Rattle.net_file.proofs.CauseParts.{not_short}
 use Rattle.net_file.proofs.BandLines.{no-parts}
 use Rattle.net_file.proofs.LineGrowth.{head_lines, network-grows, end-grows}
 use Rattle.net_file.proofs.SetupParts.{Whole, whole-band, setup-whole}
 use Rattle.net_file.proofs.ReadLaws.{all_words}
 use Rattle.net_file.proofs.TextRuns.{Reached, Stopped, reads, last-fault}
+use Rattle.eon_model.proofs.WholeLines.{text_of, lines-text}
+use Rattle.eon_model.proofs.TextLengths.{texts-are-short}
 
 -- ---- parts for a band that has too few
 
@@ -343,7 +345,7 @@ pub texts-can-go-on : TextsCanGoOn
 texts-can-go-on bytes n e rest = by_reading (reads bytes)
   where
     by_reading : Reached bytes (whole_lines bytes).1 ⊎ Stopped bytes →
-        (more : List ℕ) × ((s : Setup) × IsNetworkTextOf (bytes ++ more) s)
+        (more : List ℕ) × ((s : Setup) × (IsNetworkTextOf (bytes ++ more) s) × (length (bytes ++ more) < 1048576))
     by_reading (inl r) =
         let ls = (whole_lines bytes).0 in
         let open_ = goes_on (has_end r.sheet.last) r.number n
@@ -351,18 +353,14 @@ texts-can-go-on bytes n e rest = by_reading (reads bytes)
         (then_some (nat_lt 0 (length v)) model.Rest) (Some model.Short))) (sym rest)
         ∙ sym (last-fault bytes (whole_lines bytes).1 r) ∙ e) in
         let c = completed r.sheet r.at.sound (open_far r.sheet.last open_) in
-        let told : map fields_of ls ≡ lines_of r.sheet = r.at.told ∙ append-nil (lines_of r.sheet) in (
-          flat_map line c.more,
-          (
-            c.setup,
-            record {
-              in_range = c.in_range;
-              is = ap (λ (v : List ℕ). v ++ flat_map line c.more) (sym (lines_back bytes rest))
-                  ∙ sym (flat_map-append line (map fields_of ls) c.more)
-                  ∙ ap (λ (v : List Fields). flat_map line (v ++ c.more)) told ∙ ap (flat_map line) c.is ∙ text_words c.setup;
-            },
-          ),
-        )
+        let told : map fields_of ls ≡ lines_of r.sheet = r.at.told ∙ append-nil (lines_of r.sheet) in
+        let text : IsNetworkTextOf (bytes ++ flat_map line c.more) c.setup = record {
+          in_range = c.in_range;
+          is = ap (λ (v : List ℕ). v ++ flat_map line c.more) (sym (lines_back bytes rest))
+              ∙ sym (flat_map-append line (map fields_of ls) c.more)
+              ∙ ap (λ (v : List Fields). flat_map line (v ++ c.more)) told ∙ ap (flat_map line) c.is ∙ text_words c.setup;
+        } in
+        (flat_map line c.more, (c.setup, text, texts-are-short (bytes ++ flat_map line c.more) c.setup text))
     by_reading (inr r) =
         let same : r.why ≡ model.Short = ap why_of (sym r.is ∙ e) in
         absurd (both_ways (not_short r.why) (ap not_short same) r.long)

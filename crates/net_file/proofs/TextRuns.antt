@@ -11,7 +11,7 @@ use Rattle.eon_model.specs.NetworkFault.{field_at, word_spelled, whole_lines, ne
 use Rattle.net_file.specs.declared.fault.Why.{Why}
 use Rattle.net_file.specs.declared.fault.Why.TheVariants as why
 use Rattle.net_file.specs.Told.{why_told}
-use Rattle.net_file.specs.TextLaws.{FaultlessTextsAreOfASetup}
+use Rattle.eon_model.specs.NetworkTextLaws.{FaultlessTextsAreOfASetup, NetworkFaultTellsTexts}
 use Rattle.net_file.specs.Readings.{is_nil}
 use Rattle.net_file.specs.Steps.{Sheet, setup_told, has_end, word_step, line_step}
 use Rattle.net_file.specs.Drafts.{lines_of, Sound}
@@ -19,6 +19,7 @@ use Rattle.net_file.proofs.CauseParts.{not_short, cause-long}
 use Rattle.net_file.proofs.LineLaws.{line-law}
 use Rattle.net_file.proofs.StepParts.{Takes}
 use Rattle.net_file.proofs.ReadLaws.{IsAt, at-start, at-next, at-fault, at_last, at-end}
+use Rattle.eon_model.proofs.TextWhole.{texts-have-no-fault}
 
 -- all whole lines were taken
 pub record Reached (bytes : List ℕ) (rest : List ℕ) : Type 0 where
@@ -106,3 +107,7 @@ faultless-texts-are-of-a-setup bytes e = by_reading (reads bytes)
         let f = ended_by (has_end r.sheet.last) rest r.number (sym (last-fault bytes rest r) ∙ e) in
         (setup_told r.sheet.setup, (at-end bytes r.sheet r.number [] rest r.at refl f.ended (ap is_nil f.nothing)).1)
     by_reading (inr r) = let bad = sym e ∙ r.is in absurd cc
+
+pub network-fault-tells-texts : NetworkFaultTellsTexts
+network-fault-tells-texts bytes =
+    (faultless-texts-are-of-a-setup bytes, λ t. texts-have-no-fault bytes t.0 t.1)

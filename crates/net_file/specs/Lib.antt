@@ -4,5 +4,4 @@ pub mod Told
 pub mod LineWords
 pub mod Steps
 pub mod Drafts
-pub mod TextLaws
 pub mod PrintWords

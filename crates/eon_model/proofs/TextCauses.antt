@@ -4,10 +4,14 @@ use Rattle.std.specs.Prelude.{⊤}
 use Rattle.std.specs.Option.{option_map, option_map_or, option_or}
 use Rattle.std.proofs.lemmas.List.{append-nil}
 use Rattle.std.proofs.lemmas.Bool.{false≢true}
-use Rattle.eon_model.specs.Spelling.{spaced}
-use Rattle.eon_model.specs.NetworkFault.{Word, Net, Band, Guard, K, Services, Journal, Format, Node, Fibre, Group, End, Rest, Short, NoWord, Form, Range, Many, Order, Twice, Unknown, SelfEnd, Groups, Fields, word_spelled, field_at, may_follow, may_stand_after, has_its_parts, last_word, is_end, has_ended, has_form, has_ranges, is_many, is_out_of_order, is_twice, has_unknown, ends_where_it_starts, is_in_a_ninth, first_why, cause_with, cause_of, first_fault}
+use Rattle.std.specs.List.{flat_map}
+use Rattle.eon_model.specs.Spelling.{spaced, line}
+use Rattle.eon_model.proofs.SplitLaws.{lacks-join}
+use Rattle.eon_model.specs.NetworkFault.{Word, Net, Band, Guard, K, Services, Journal, Format, Node, Fibre, Group, End, Rest, Short, NoWord, Form, Range, Many, Order, Twice, Unknown, SelfEnd, Groups, Fields, word_spelled, field_at, may_follow, may_stand_after, has_its_parts, last_word, is_end, has_ended, has_form, has_ranges, is_many, is_out_of_order, is_twice, has_unknown, ends_where_it_starts, is_in_a_ninth, first_why, cause_with, cause_of, whole_lines, first_fault}
 use Rattle.eon_model.proofs.OrderLaws.{AllOf}
-use Rattle.net_file.proofs.SplitText.{Clean, fields-spaced}
+use Rattle.eon_model.proofs.CleanLines.{CleanLine}
+use Rattle.eon_model.proofs.NetworkUniqueLaws.{all_endless, append_cons, line_words}
+use Rattle.eon_model.proofs.WholeLines.{line_first, lines-first, fields-split}
 
 -- the line passes each test after these lines
 pub record Passes (earlier : List Fields) (w : Word) (fields : Fields) : Type 0 where
@@ -74,14 +78,22 @@ AllPass-append earlier (x ∷ xs) ys p q = (
       (subst (λ (e : List Fields). AllPass e ys) (one_more earlier x xs) q),
 )
 
+-- lines of words are found in their text
+pub lines-found : (all : List Fields) → AllOf CleanLine all → whole_lines (flat_map line all) ≡ (map spaced all, [])
+lines-found [] a = refl
+lines-found (ws ∷ all) a =
+    ap whole_lines (append_cons (spaced ws) (flat_map line all))
+    ∙ lines-first (spaced ws) (flat_map line all) (lacks-join 10 32 ws refl (all_endless ws a.0.1))
+    ∙ ap (line_first (spaced ws)) (lines-found all a.1)
+
 -- lines that pass, of which the last ends the text, have no fault
-pub no-fault : (earlier lines : List Fields) (number : ℕ) → AllPass earlier lines → AllOf Clean lines →
+pub no-fault : (earlier lines : List Fields) (number : ℕ) → AllPass earlier lines → AllOf CleanLine lines →
     has_ended (earlier ++ lines) ≡ true → first_fault earlier number (map spaced lines) [] ≡ None
 no-fault earlier [] number p c e =
     let ended : has_ended earlier ≡ true = ap has_ended (sym (append-nil earlier)) ∙ e in
     λ i. option_map (λ why. (number, why)) (cond (ended i) None (Some Short))
 no-fault earlier (line ∷ lines) number p c e =
-    let read = fields-spaced line c.0 in
+    let read = fields-split (spaced line) ∙ line_words line c.0 in
     let on = not-ended earlier p.0.0 line p.0.1 in
     (λ i. option_or (option_map (λ why. (number, why)) (cond (on i) (Some Rest) (cause_of earlier (read i))))
     (first_fault (earlier ++ read i ∷ []) (number + 1) (map spaced lines) []))

@@ -12,12 +12,12 @@ use Rattle.eon_model.specs.NetworkFault as fault
 use Rattle.eon_model.specs.NetworkFault.{Net, Band, Guard, K, Services, Journal, Word, Fields, has_word, word_spelled, field_at, last_word, may_stand_after, may_follow, lines_with, has_parts, band_lines}
 use Rattle.eon_model.proofs.SetupFacts.{SetupFacts}
 use Rattle.eon_model.proofs.NetworkTextLaws.{number_words, band_words}
-use Rattle.net_file.proofs.TextNumbers.{Spelled, number-spelled}
-use Rattle.net_file.proofs.TextCauses.{Passes, AllPass, AllPass-append}
-use Rattle.net_file.proofs.TextLists.{all-with, none-with, with-right, with-neither}
-use Rattle.net_file.proofs.TextLast.{last-push, stands-behind, each-passes}
-use Rattle.net_file.proofs.TextNetworks.{not_nil}
-use Rattle.net_file.proofs.TextBand.{net_line, version-told, one-version, part-passes}
+use Rattle.eon_model.proofs.TextNumbers.{Spelled, number-spelled}
+use Rattle.eon_model.proofs.TextCauses.{Passes, AllPass, AllPass-append}
+use Rattle.eon_model.proofs.TextLists.{all-with, none-with, with-right, with-neither}
+use Rattle.eon_model.proofs.TextLast.{last-push, stands-behind, each-passes}
+use Rattle.eon_model.proofs.TextNetworks.{not_nil}
+use Rattle.eon_model.proofs.TextBand.{net_line, version-told, one-version, part-passes, last_true}
 
 -- ---- the lines
 
@@ -37,9 +37,6 @@ with_services s = with_k s ++ number_words (codes "services") s.services ∷ []
 -- the lines before the formats
 abbrev pub front : Setup → List Fields
 front s = with_services s ++ number_words (codes "journal") s.journal ∷ []
-
-last_true : (b : Bool) → b ≡ true → (b && true) ≡ true
-last_true b h = and_from b true h refl
 
 one_number : {least most n : ℕ} → Spelled least most n → ((is_within least most (number_value (decimal n)) && true) && true) ≡ true
 one_number s = last_true _ (last_true _ s.ranged)

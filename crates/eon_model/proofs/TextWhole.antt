@@ -1,5 +1,5 @@
 -- The text of a setup in range has no fault.
-use Rattle.std.proofs.Common.{◌≡◌, refl, sym, ◌∙◌, ap, subst, ℕ, true, false, List, [], ◌∷◌, ◌++◌, length, map, Option, append_assoc, Some}
+use Rattle.std.proofs.Common.{◌≡◌, refl, sym, ◌∙◌, ap, subst, ℕ, true, false, List, [], ◌∷◌, ◌++◌, length, map, Option, append_assoc}
 use Rattle.std.specs.Prelude.{codes, nat_le}
 use Rattle.std.specs.Option.{option_map_or, option_and_then}
 use Rattle.std.specs.List.{list_all, range_with_len}
@@ -7,25 +7,22 @@ use Rattle.eon_model.specs.Names.{Name, ascend}
 use Rattle.eon_model.specs.Network.{Fibre}
 use Rattle.eon_model.specs.Formats.{Format}
 use Rattle.eon_model.specs.Legal.{Setup}
-use Rattle.eon_model.specs.Spelling.{line}
-use Rattle.eon_model.specs.NetworkText.{is_group_among, is_in_few_groups, is_setup, IsNetworkTextOf}
+use Rattle.eon_model.specs.NetworkText.{is_group_among, is_in_few_groups, is_setup}
 use Rattle.eon_model.specs.NetworkFault as fault
 use Rattle.eon_model.specs.NetworkFault.{Word, End, Fields, word_spelled, field_at, last_word, last_fields, is_end, has_ended, may_stand_after, lines_with, whole_lines, first_fault, network_fault}
-use Rattle.eon_model.proofs.OrderLaws.{AllOf}
 use Rattle.eon_model.proofs.Members.{map-itself}
 use Rattle.eon_model.proofs.SetupLaws.{NetworkParts, network-parts}
 use Rattle.eon_model.proofs.NetworkTextLaws.{format_words, node_words, fibre_words, group_words, network_words, setup_words, text_words}
-use Rattle.net_file.proofs.SplitText.{Clean, lines-found}
-use Rattle.net_file.specs.TextLaws.{TextsHaveNoFault}
-use Rattle.net_file.proofs.TextNetworks.{not_nil, network_few, names_of, some_fibres}
-use Rattle.net_file.proofs.TextCauses.{Passes, AllPass, AllPass-append, no-fault}
-use Rattle.net_file.proofs.TextClean.{passes-clean}
-use Rattle.net_file.proofs.TextLists.{all-at, all-with, none-with, with-both, with-neither, with-right}
-use Rattle.net_file.proofs.TextLast.{stands-behind, last-push, each-passes}
-use Rattle.net_file.proofs.TextFront.{front, front-none, front-last, front-passes}
+use Rattle.eon_model.proofs.CleanLines.{setup_parts, setup_clean, fibre_names_are}
+use Rattle.eon_model.specs.NetworkTextLaws.{TextsHaveNoFault}
+use Rattle.eon_model.proofs.TextNetworks.{not_nil, network_few, some_fibres}
+use Rattle.eon_model.proofs.TextCauses.{Passes, AllPass, AllPass-append, lines-found, no-fault}
+use Rattle.eon_model.proofs.TextLists.{all-at, all-with, none-with, with-both, with-neither, with-right}
+use Rattle.eon_model.proofs.TextLast.{stands-behind, last-push, each-passes}
+use Rattle.eon_model.proofs.TextFront.{front, front-none, front-last, front-passes}
 use Rattle.eon_model.proofs.SetupFacts.{SetupFacts, setup-facts}
-use Rattle.net_file.proofs.TextKinds.{format-passes, node-passes, fibre-passes}
-use Rattle.net_file.proofs.TextGroups.{group-passes}
+use Rattle.eon_model.proofs.TextKinds.{format-passes, node-passes, fibre-passes}
+use Rattle.eon_model.proofs.TextGroups.{group-passes}
 
 -- ---- the lines before each kind
 
@@ -128,7 +125,7 @@ module _ (s : Setup) (r : SetupFacts s) (p : NetworkParts s.network) where
   groups_pass few = each-passes (group_words fibres) (with_fibres s) s.network.groups λ before g after e. (
     fault.Group,
     group-passes (with_fibres s ++ map (group_words fibres) before) nodes fibres s.network.groups before g after e
-        p.few_groups (names_of nodes fibres p.fibres) p.fibres_ascend p.groups p.groups_ascend few
+        p.few_groups (fibre_names_are nodes fibres p.fibres) p.fibres_ascend p.groups p.groups_ascend few
         (stands-behind (group_words fibres) fault.Group (λ x. refl) fault.Group (with_fibres s) before
         (λ _. stands-behind (fibre_words nodes) fault.Fibre (λ x. refl) fault.Group (with_nodes s) fibres
         (not_nil _ fibres (some_fibres fibres g (all-at (is_group_among fibres) before g after
@@ -188,14 +185,8 @@ module _ (s : Setup) (r : SetupFacts s) (p : NetworkParts s.network) where
   ended = ap (λ (o : Option Fields). option_map_or is_end (option_and_then (λ fields. word_spelled (field_at fields 0)) o) false)
       (last-push (with_formats s ++ network_words s.network) end_line)
 
--- lines that pass have clean fields
-pub all-clean : (earlier lines : List Fields) → AllPass earlier lines → AllOf Clean lines
-all-clean earlier [] p = tt
-all-clean earlier (line ∷ lines) p =
-    (passes-clean earlier p.0.0 line p.0.1, all-clean (earlier ++ line ∷ []) lines p.1)
-
 -- the lines of a setup in range pass
-pub setup-passes : (s : Setup) → is_setup s ≡ true → AllPass [] (setup_words s)
+setup-passes : (s : Setup) → is_setup s ≡ true → AllPass [] (setup_words s)
 setup-passes s h =
     let r = setup-facts s h in
     all_pass s r (network-parts s.network r.network) (network_few s.network r.network)
@@ -204,12 +195,7 @@ pub texts-have-no-fault : TextsHaveNoFault
 texts-have-no-fault bytes s t =
     let pass = setup-passes s t.in_range in
     let r = setup-facts s t.in_range in
-    let clean = all-clean [] (setup_words s) pass in
+    let clean = setup_clean s (setup_parts s t.in_range) in
     ap network_fault (t.is ∙ sym (text_words s))
     ∙ ap (λ v. first_fault [] 1 v.0 v.1) (lines-found (setup_words s) clean)
     ∙ no-fault [] (setup_words s) 1 pass clean (ended s r (network-parts s.network r.network))
-
--- bytes with a fault are the text of no setup
-pub faulty-texts-are-of-none : (bytes : List ℕ) (f : ℕ × fault.Why) → network_fault bytes ≡ Some f → (s : Setup) →
-    IsNetworkTextOf bytes s → ⊥
-faulty-texts-are-of-none bytes f e s t = let none = texts-have-no-fault bytes s t in cc

@@ -1,14 +1,13 @@
 -- Facts of a network in range.
-use Rattle.std.proofs.Common.{◌≡◌, refl, ap, ℕ, ◌≤◌, true, ◌&&◌, not, List, [], ◌∷◌, length, nat_lt, nat_eq, arith}
+use Rattle.std.proofs.Common.{◌≡◌, ap, ℕ, ◌≤◌, true, ◌&&◌, not, List, [], ◌∷◌, length, nat_lt, arith}
 use Rattle.std.specs.Prelude.{nat_le}
 use Rattle.std.specs.List.{list_all, range_with_len}
-use Rattle.std.proofs.lemmas.Bool.{and_parts, and_from, leb-true, ltb-true}
-use Rattle.eon_model.specs.Names.{Name, is_name, has_name, ascend}
+use Rattle.std.proofs.lemmas.Bool.{and_parts, leb-true, ltb-true}
+use Rattle.eon_model.specs.Names.{is_name, has_name, ascend}
 use Rattle.eon_model.specs.Lists.{numbers_ascend}
 use Rattle.eon_model.specs.Network.{Network, Fibre, Group, fibre_names, group_names}
-use Rattle.eon_model.specs.NetworkText.{is_fibre_among, is_group_among, is_in_few_groups, has_nodes, has_fibres, has_groups, is_network}
-use Rattle.eon_model.specs.Numerals.{is_within}
-use Rattle.net_file.proofs.TextGroups.{in_list}
+use Rattle.eon_model.specs.NetworkText.{is_group_among, is_in_few_groups, has_nodes, has_fibres, has_groups, is_network}
+use Rattle.eon_model.proofs.TextGroups.{in_list}
 
 -- a list that is not empty
 pub not_nil : {X : Type 0} (P : Type 0) (xs : List X) → 1 ≤ length xs → xs ≡ [] → P
@@ -20,18 +19,6 @@ network_few net h =
     let a = and_parts (has_nodes net && has_fibres net) (has_groups net) h in
     (and_parts (nat_le (length net.groups) 128 && list_all (is_group_among net.fibres) net.groups
     && ascend (group_names net.groups)) _ a.1).1
-
-pub names_of : (nodes : List Name) (fs : List Fibre) → list_all (is_fibre_among nodes) fs ≡ true →
-    list_all is_name (fibre_names fs) ≡ true
-names_of nodes [] h = refl
-names_of nodes (f ∷ fs) h =
-    let p = and_parts (is_fibre_among nodes f) (list_all (is_fibre_among nodes) fs) h in
-    let a = and_parts (is_name f.name && nat_lt f.a (length nodes) && nat_lt f.b (length nodes)
-    && not (nat_eq f.a f.b)) (is_within 1 100000 f.km) p.0 in
-    let b = and_parts (is_name f.name && nat_lt f.a (length nodes) && nat_lt f.b (length nodes))
-    (not (nat_eq f.a f.b)) a.0 in
-    let c = and_parts (is_name f.name && nat_lt f.a (length nodes)) (nat_lt f.b (length nodes)) b.0 in
-    and_from _ _ (and_parts (is_name f.name) (nat_lt f.a (length nodes)) c.0).0 (names_of nodes fs p.1)
 
 -- where a group is, there is a fibre
 some_of : (fs : List Fibre) (numbers : List ℕ) → 1 ≤ length numbers → in_list fs numbers ≡ true → 1 ≤ length fs

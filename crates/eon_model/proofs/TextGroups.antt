@@ -6,6 +6,7 @@ use Rattle.std.specs.declared.cmp.Ordering.TheVariants.{Less}
 use Rattle.std.specs.Ordering.{is_lt}
 use Rattle.std.specs.Cmp.{nat_cmp_is}
 use Rattle.std.proofs.lemmas.Bool.{and_parts, and_from, or_from, not-true, not_from_true, leb-true, lt-leb, ltb-true, eqb-true, eq-eqb}
+use Rattle.std.proofs.lemmas.List.{length-map}
 use Rattle.eon_model.specs.Names.{Name, is_name, same_name, is_above, has_name, ascend}
 use Rattle.eon_model.specs.Lists.{has_number, numbers_ascend}
 use Rattle.eon_model.specs.Network.{Fibre, Group, fibre_at, fibre_names, group_names, names_of_fibres}
@@ -20,9 +21,9 @@ use Rattle.eon_model.proofs.NumberLaws.{name_cmp-fibre_at}
 use Rattle.eon_model.proofs.NamePlaceLaws.{name-fibre_at, name_at-passes}
 use Rattle.eon_model.proofs.NetworkReadLaws.{length_names}
 use Rattle.eon_model.proofs.NetworkTextLaws.{fibre_words, group_words}
-use Rattle.net_file.proofs.TextCauses.{Passes}
-use Rattle.net_file.proofs.TextLists.{all-at, count-before, count-cons, none-any}
-use Rattle.net_file.proofs.TextKinds.{length-map, room, rises, has-at, other-name}
+use Rattle.eon_model.proofs.TextCauses.{Passes}
+use Rattle.eon_model.proofs.TextLists.{all-at, count-before, count-cons, none-any}
+use Rattle.eon_model.proofs.TextKinds.{room, rises, has-at, other-name}
 
 -- ---- members
 
@@ -180,7 +181,7 @@ group-passes earlier nodes fs all before g after e l names fs_up ok up few stand
     let d = and_parts (is_name g.name) (not (has_name (fibre_names fs) g.name)) c.0 in
     let some = leb-true 1 (length g.fibres) c.1 in
     let members = names_of_fibres fs g.fibres in
-    let many = length-map (λ i. (fibre_at fs i).name) g.fibres in
+    let many = length-map g.fibres (λ i. (fibre_at fs i).name) in
     let told : names_with earlier (codes "fibre") ≡ fibre_names fs =
     ap (map (λ fields. field_at fields 1)) fibre_lines ∙ fibres-back nodes fs in
     let n = length_names fs in

@@ -6,7 +6,7 @@ use Rattle.std.proofs.lemmas.List.{append-nil, map-append}
 use Rattle.std.proofs.lemmas.Bool.{and_parts, not_from_true}
 use Rattle.eon_model.specs.Names.{Name, is_above}
 use Rattle.eon_model.specs.NetworkFault.{Word, Fields, word_spelled, field_at, may_follow, may_stand_after, last_word, last_fields}
-use Rattle.net_file.proofs.TextCauses.{Passes, AllPass}
+use Rattle.eon_model.proofs.TextCauses.{Passes, AllPass}
 
 -- ---- the last line
 

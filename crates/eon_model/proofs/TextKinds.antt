@@ -5,6 +5,7 @@ use Rattle.std.specs.Option.{option_map_or}
 use Rattle.std.specs.List.{list_all, list_any}
 use Rattle.std.specs.Fmt.{decimal}
 use Rattle.std.proofs.lemmas.Bool.{and_parts, and_from, or_from, or_left, or_right, not-true, not_from_true, lt-leb, ltb-true, eq-eqb, both_ways, false_from_ne_true}
+use Rattle.std.proofs.lemmas.List.{length-map}
 use Rattle.eon_model.specs.Names.{Name, is_name, same_name, is_above, has_name, differ, ascend}
 use Rattle.eon_model.specs.Numerals.{is_within, is_number, number_value}
 use Rattle.eon_model.specs.Network.{Fibre, name_at, fibre_names, number_of}
@@ -17,10 +18,10 @@ use Rattle.eon_model.proofs.NumberLaws.{same-name}
 use Rattle.eon_model.proofs.NamePlaceLaws.{number_of-name_at, name_at-passes}
 use Rattle.eon_model.proofs.NetworkTextLaws.{format_words, node_words, fibre_words}
 use Rattle.eon_model.proofs.Members.{all_pairs-map}
-use Rattle.net_file.proofs.TextCauses.{Passes}
-use Rattle.net_file.proofs.TextNumbers.{some_is, number-spelled}
-use Rattle.net_file.proofs.TextLists.{all-at, pairs-before, shorter}
-use Rattle.net_file.proofs.TextLast.{above-last}
+use Rattle.eon_model.proofs.TextCauses.{Passes}
+use Rattle.eon_model.proofs.TextNumbers.{some_is, number-spelled}
+use Rattle.eon_model.proofs.TextLists.{all-at, pairs-before, shorter}
+use Rattle.eon_model.proofs.TextLast.{above-last}
 
 -- ---- what a kind of line needs
 
@@ -28,15 +29,11 @@ use Rattle.net_file.proofs.TextLast.{above-last}
 few-lines : (most : ℕ) (n : ℕ) → n < most → nat_le most n ≡ false
 few-lines most n l = lt-leb most n l
 
-pub length-map : {X Y : Type 0} (f : X → Y) (xs : List X) → length (map f xs) ≡ length xs
-length-map f [] = refl
-length-map f (x ∷ xs) = let more = length-map f xs in omega arith
-
 -- of fewer elements than there may be, those before one leave room for it
 pub room : {X : Type 0} (words : X → Fields) (most : ℕ) (before : List X) (x : X) (after all : List X) →
     before ++ x ∷ after ≡ all → length all ≤ most → nat_le most (length (map words before)) ≡ false
 room words most before x after all e l =
-    let n = length-map words before in
+    let n = length-map before words in
     let m = shorter before x after in
     let s : length (before ++ x ∷ after) ≡ length all = ap length e in
     few-lines most (length (map words before)) (omega arith)

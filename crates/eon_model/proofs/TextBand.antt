@@ -17,12 +17,12 @@ use Rattle.eon_model.proofs.OrderLaws.{IsIn}
 use Rattle.eon_model.proofs.Members.{any-by}
 use Rattle.eon_model.proofs.SpellingLaws.{number_value-decimal}
 use Rattle.eon_model.proofs.NetworkTextLaws.{number_words, band_words}
-use Rattle.net_file.proofs.BandLines.{small-ends, least-read, greatest-read}
-use Rattle.net_file.proofs.TextNumbers.{signed-spelled}
-use Rattle.net_file.proofs.TextCauses.{Passes}
-use Rattle.net_file.proofs.TextLists.{all-at, in-after, all-with, with-right}
-use Rattle.net_file.proofs.TextLast.{stands-behind}
-use Rattle.net_file.proofs.TextKinds.{room}
+use Rattle.eon_model.proofs.CleanLines.{small_units}
+use Rattle.eon_model.proofs.TextNumbers.{signed-spelled, least-read, greatest-read}
+use Rattle.eon_model.proofs.TextCauses.{Passes}
+use Rattle.eon_model.proofs.TextLists.{all-at, in-after, all-with, with-right}
+use Rattle.eon_model.proofs.TextLast.{stands-behind}
+use Rattle.eon_model.proofs.TextKinds.{room}
 
 -- ---- the version
 
@@ -171,7 +171,7 @@ leaves band (first ∷ before) part after e facts wide good =
 in_units_from : (z : ℤ) → negsuc 4095 ≤ℤ z → z ≤ℤ pos 4095 → (int_le (negsuc 4095) z && int_le z (pos 4095)) ≡ true
 in_units_from z l h = and_from _ _ (le-int_le (negsuc 4095) z l) (le-int_le z (pos 4095) h)
 
-last_true : (b : Bool) → b ≡ true → (b && true) ≡ true
+pub last_true : (b : Bool) → b ≡ true → (b && true) ≡ true
 last_true b h = and_from b true h refl
 
 pub part-passes : (band before : grid.Band) (part : Units) (after : grid.Band) → before ++ part ∷ after ≡ band →
@@ -185,7 +185,7 @@ part-passes band before part after e good few wide =
     let low = int_le-le (negsuc 4095) part.lo v.0 in
     let rise = int_le-le part.lo part.hi v.1 in
     let high = int_le-le part.hi (pos 4095) u.1 in
-    let small = small-ends part units in
+    let small = small_units part units in
     let lo = least-read part units in
     let hi = greatest-read part units in
     let end = below-end band before part after e facts in
