@@ -15,14 +15,7 @@ use Rattle.net_graph.specs.declared.graph.GroupRow.{GroupRow}
 use Rattle.net_graph.specs.Graph.{is_graph, comes_after, with_node, with_fibre, holders}
 use Rattle.net_graph.specs.Rows.{row_fibre, group_seen, network_of, IsKept, IsCounted}
 use Rattle.net_graph.proofs.GraphParts.{parts_of, graph_from, length_rows}
-use Rattle.net_graph.proofs.NameOrder.{ascend-push, list_all-push}
-
-all_more : {X : Type 0} (p q : X → Bool) → ((x : X) → p x ≡ true → q x ≡ true) → (xs : List X) →
-    list_all p xs ≡ true → list_all q xs ≡ true
-all_more p q more [] h = refl
-all_more p q more (x ∷ xs) h =
-    let parts = and_parts (p x) (list_all p xs) h in
-    and_from (q x) (list_all q xs) (more x parts.0) (all_more p q more xs parts.1)
+use Rattle.net_graph.proofs.NameOrder.{all_more, ascend-push, list_all-push}
 
 -- ---- one more node
 

@@ -3,7 +3,7 @@ use Rattle.std.proofs.Common.{◌≡◌, refl, sym, ◌∙◌, ap, subst, inl, i
 use Rattle.std.specs.List.{list_all, list_any, sum_by, range_with_len, AllByRecursion}
 use Rattle.std.specs.Cmp.{nat_cmp_total}
 use Rattle.std.specs.FinSet.{insert, from_list_push, nat_cmp-IsAntisymmetric}
-use Rattle.std.proofs.lemmas.Bool.{and_parts, and_from, lt-ltb, leb-true, leb-false, le-leb, or_parts, or_cases, eqb-true, false≢true}
+use Rattle.std.proofs.lemmas.Bool.{and_from, lt-ltb, leb-true, leb-false, le-leb, or_parts, or_cases, eqb-true, false≢true}
 use Rattle.std.proofs.lemmas.List.{map-append}
 use Rattle.std.proofs.lemmas.List.Sums.{sum_by-append}
 use Rattle.eon_model.specs.Names.{Name, is_name, ascend}
@@ -18,7 +18,7 @@ use Rattle.net_graph.specs.declared.graph.GroupRow.{GroupRow}
 use Rattle.net_graph.specs.Graph.{is_graph, comes_after, with_group, group_fault, group_named, holders}
 use Rattle.net_graph.specs.Rows.{row_fibre, row_with, rows_with, few_groups, group_seen, network_of, IsKept, IsCounted}
 use Rattle.net_graph.proofs.GraphParts.{parts_of, graph_from, length_rows, length_groups}
-use Rattle.net_graph.proofs.NameOrder.{ascend-push, list_all-push}
+use Rattle.net_graph.proofs.NameOrder.{all_more, ascend-push, list_all-push}
 use Rattle.net_graph.proofs.RowLemmas.{get_or-rows_with, length-rows_with}
 use Rattle.net_graph.proofs.FaultLemmas.{group-accepts}
 use Rattle.net_graph.proofs.GroupLemmas.{numbers_below, numbers_rise, some_number}
@@ -115,13 +115,6 @@ few_more groups g i false e room h =
     let low = leb-true (holders groups i) 8 h in
     let sum = holders-push groups g i ∙ ap (λ b. holders groups i + cond b 1 0) e in
     le-leb (holders (groups ++ g ∷ []) i) 8 (omega arith)
-
-all_more : (p q : ℕ → Bool) → ((i : ℕ) → p i ≡ true → q i ≡ true) → (is : List ℕ) →
-    list_all p is ≡ true → list_all q is ≡ true
-all_more p q more [] h = refl
-all_more p q more (i ∷ is) h =
-    let parts = and_parts (p i) (list_all p is) h in
-    and_from (q i) (list_all q is) (more i parts.0) (all_more p q more is parts.1)
 
 pub graph-with_group : (net : Network) (g : Group) → is_graph net ≡ true → length net.groups < 128 →
     is_group_among net.fibres g ≡ true → comes_after (group_names net.groups) g.name ≡ true →

@@ -4,18 +4,19 @@ use Rattle.std.specs.List.{list_all, position, AllWithin}
 use Rattle.std.specs.List.Sorted.{IsBinarySearchResult, IsNonDecreasingBy}
 use Rattle.std.specs.declared.cmp.Ordering.{Ordering}
 use Rattle.std.specs.declared.cmp.Ordering.TheVariants.{Less, Equal, Greater}
-use Rattle.std.specs.Ordering.{nat_cmp, is_lt, is_some_and, ordering_index, ordering_reverse}
+use Rattle.std.specs.Ordering.{nat_cmp, is_lt, is_some_and, ordering_index}
 use Rattle.std.specs.Cmp.{tied_itself}
 use Rattle.std.specs.Cmp.Lexicographic.{slice_partial_cmp, lists_agrees, nat_list_cmp_total}
 use Rattle.std.proofs.lemmas.Bool.{and_parts, and_from, cases_lt, and_right, both_ways, false_from_ne_true, false≢true}
-use Rattle.std.proofs.lemmas.List.{get_or_default, take_more, take-append-drop}
+use Rattle.std.proofs.lemmas.List.{take_more, take-append-drop}
 use Rattle.std.proofs.lemmas.List.Quantifiers.{position-Some}
 use Rattle.eon_model.specs.Names.{Name, name_cmp, is_above, same_name, ascend}
 use Rattle.eon_model.specs.Network.{name_at, number_of}
+use Rattle.eon_model.proofs.Members.{map-itself}
 use Rattle.eon_model.proofs.NumberLaws.{name_cmp_exact, same-name}
 use Rattle.eon_model.proofs.NamePlaceLaws.{number_of-name_at}
 use Rattle.net_graph.specs.Graph.{comes_after}
-use Rattle.net_graph.proofs.WordLemmas.{same_bool}
+use Rattle.eon_model.proofs.SetLists.{same_test}
 
 -- bytes are compared as names are
 pub bytes_below : (a b : Name) →
@@ -69,6 +70,13 @@ after_all (a ∷ []) x h = (and_parts (is_above x a) true h).0
 after_all (a ∷ b ∷ names) x h =
     after_all (b ∷ names) x (and_parts (is_above x a) (list_all (λ y. is_above x y) (b ∷ names)) h).1
 
+pub all_more : {X : Type 0} (p q : X → Bool) → ((x : X) → p x ≡ true → q x ≡ true) → (xs : List X) →
+    list_all p xs ≡ true → list_all q xs ≡ true
+all_more p q more [] h = refl
+all_more p q more (x ∷ xs) h =
+    let parts = and_parts (p x) (list_all p xs) h in
+    and_from (q x) (list_all q xs) (more x parts.0) (all_more p q more xs parts.1)
+
 pub list_all-push : {X : Type 0} (p : X → Bool) (xs : List X) (x : X) → list_all p xs ≡ true → p x ≡ true →
     list_all p (xs ++ x ∷ []) ≡ true
 list_all-push p [] x all h = and_from (p x) true h refl
@@ -115,7 +123,7 @@ ascend-above (a ∷ names) x h =
 -- names and one more ascend where it comes after them
 pub ascend-push : (names : List Name) (x : Name) →
     ascend (names ++ x ∷ []) ≡ (ascend names && comes_after names x)
-ascend-push names x = same_bool _ _
+ascend-push names x = same_test _ _
     (λ h. and_from (ascend names) (comes_after names x) (ascend-front names (x ∷ []) h)
     (after_all names x (ascend-above names x h)))
     (λ h. let parts = and_parts (ascend names) (comes_after names x) h in
@@ -237,61 +245,10 @@ pub no_number : {X : Type 0} (key : X → Name) (xs : List X) (n : Name) (i : �
 no_number key xs n i up h =
     let parts = h (ranks_rise key xs n up) in not_found key xs n i parts.0 parts.1
 
--- the same at an element that the code has read
-pub found_here : {X : Type 0} (key : X → Name) (xs : List X) (n : Name) (i : ℕ) (x : X) →
-    ascend (map key xs) ≡ true → i < length xs → name_cmp (key (get_or xs i x)) n ≡ Equal →
-    Some i ≡ number_of (map key xs) n
-found_here key xs n i x up l equal =
-    found_number key xs n i up l (λ d. ap (λ v. name_cmp (key v) n) (get_or_default xs i d x l) ∙ equal)
-
--- ---- halves of a search
-
--- the elements up to this one are below the name
-pub all_below : {X : Type 0} (key : X → Name) (xs : List X) (n : Name) (m : ℕ) (x : X) →
-    ascend (map key xs) ≡ true → m < length xs → name_cmp (key (get_or xs m x)) n ≡ Less →
-    AllWithin (λ y. name_cmp (key y) n ≡ Less) xs 0 (m + 1)
-all_below key xs n m x up l less k d lo hi =
-    let here = get_or_default xs m d x l in
-    let low : name_cmp (key (get_or xs m d)) n ≡ Less = ap (λ v. name_cmp (key v) n) here ∙ less in
-    elim (cases_lt k m) [
-      | inl before ↦
-          nat_list_cmp_total.trans (key (get_or xs k d)) (key (get_or xs m d)) n
-          (key_less key xs k m d up before l) low
-      | inr after ↦
-          let same : k ≡ m = omega arith in
-          ap (λ j. name_cmp (key (get_or xs j d)) n) same ∙ low
-    ]
-
-flipped : (a b : Name) → name_cmp a b ≡ Less → name_cmp b a ≡ Greater
-flipped a b less = nat_list_cmp_total.antisymm b a ∙ ap ordering_reverse less
-
-flipped_back : (a b : Name) → name_cmp a b ≡ Greater → name_cmp b a ≡ Less
-flipped_back a b greater = nat_list_cmp_total.antisymm b a ∙ ap ordering_reverse greater
-
--- the elements from this one on are above the name
-pub all_above : {X : Type 0} (key : X → Name) (xs : List X) (n : Name) (m : ℕ) (x : X) →
-    ascend (map key xs) ≡ true → m < length xs → name_cmp (key (get_or xs m x)) n ≡ Greater →
-    AllWithin (λ y. name_cmp (key y) n ≡ Greater) xs m (length xs)
-all_above key xs n m x up l greater k d lo hi =
-    let here = get_or_default xs m d x l in
-    let high : name_cmp (key (get_or xs m d)) n ≡ Greater = ap (λ v. name_cmp (key v) n) here ∙ greater in
-    elim (cases_lt m k) [
-      | inl before ↦
-          flipped n (key (get_or xs k d))
-          (nat_list_cmp_total.trans n (key (get_or xs m d)) (key (get_or xs k d))
-          (flipped_back (key (get_or xs m d)) n high) (key_less key xs m k d up before hi))
-      | inr after ↦
-          let same : k ≡ m = omega arith in
-          ap (λ j. name_cmp (key (get_or xs j d)) n) same ∙ high
-    ]
-
--- where the halves meet, nothing has the name
-pub halves_meet : {X : Type 0} (key : X → Name) (xs : List X) (n : Name) (low high : ℕ) → high ≤ low →
-    AllWithin (λ y. name_cmp (key y) n ≡ Less) xs 0 low →
-    AllWithin (λ y. name_cmp (key y) n ≡ Greater) xs high (length xs) →
-    None ≡ number_of (map key xs) n
-halves_meet key xs n low high met below above =
-    not_found key xs n low below (λ k d lo hi. above k d (omega arith) hi)
+-- in a list that holds the names themselves
+pub number_itself : (names : List Name) (n : Name) (found told : Option ℕ) →
+    found ≡ number_of (map (λ x. x) names) n → found ≡ told → number_of names n ≡ told
+number_itself names n found told e h = ap (λ ns. number_of ns n) (sym (map-itself names)) ∙ sym e ∙ h
 
 -- ---- a list of names, name by name
 

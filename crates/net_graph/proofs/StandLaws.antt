@@ -1,8 +1,7 @@
 -- Where walks stand: fibre by fibre, and no node twice.
-use Rattle.std.proofs.Common.{◌≡◌, refl, sym, ◌∙◌, ap, subst, arith, ℕ, ◌<◌, nat_eq, ◌==◌, Bool, true, false, cond, ◌&&◌, ◌||◌, not, List, [], ◌∷◌, ◌++◌, length, Option, Some, None, slice_get}
+use Rattle.std.proofs.Common.{◌≡◌, refl, sym, ◌∙◌, ap, subst, arith, ℕ, ◌<◌, nat_eq, ◌==◌, Bool, true, false, cond, ◌&&◌, not, List, [], ◌∷◌, ◌++◌, length, Option, Some, None, slice_get}
 use Rattle.std.specs.Option.{option_and_then, option_map_or}
-use Rattle.std.specs.Cmp.{nat_cmp_total, unsigned_tied}
-use Rattle.std.specs.FinSet.{contains, insert, contains-insert, empty}
+use Rattle.std.specs.FinSet.{contains, insert, empty}
 use Rattle.std.proofs.lemmas.Bool.{or_left, or_parts, eq-eqb, eqb-true, false≢true}
 use Rattle.eon_model.specs.Network.{Network, Fibre, AreFibres}
 use Rattle.eon_model.specs.Route.{far_end, walks}
@@ -10,6 +9,7 @@ use Rattle.eon_model.specs.Sets.{NumberSet}
 use Rattle.eon_model.proofs.ListLaws.{slice_get_in}
 use Rattle.eon_model.proofs.RouteLaws.{EndsAreNodes}
 use Rattle.net_graph.specs.Walks.{node_after}
+use Rattle.eon_model.proofs.SetLaws.{member-insert}
 use Rattle.net_graph.proofs.RouteSums.{node_after-nodes}
 use Rattle.net_graph.proofs.WalkLemmas.{goes, walks-begun}
 use Rattle.net_graph.specs.declared.walk.Stand.{Stand}
@@ -60,9 +60,6 @@ stand-last fibres stand n p i e =
     ∙ last_alone fibres n i (moved fibres n i) refl
 
 -- ---- no node twice
-
-member-insert : (s : NumberSet) (k q : ℕ) → contains (insert s k) q ≡ (nat_eq q k || contains s q)
-member-insert s k q = contains-insert nat_cmp_total s k q ∙ ap (λ b. b || contains s q) (unsigned_tied q k)
 
 arrive_cases : (visited : NumberSet) (next : ℕ) (m : Stand) (b : Bool) → contains visited next ≡ b →
     cond b None (Some (record { node = next; visited = insert visited next })) ≡ Some m →

@@ -1,17 +1,19 @@
 -- Walking fibre by fibre.
-use Rattle.std.proofs.Common.{◌≡◌, refl, sym, ◌∙◌, ap, ℕ, nat_eq, ◌==◌, Bool, true, false, ◌&&◌, ◌||◌, not, List, [], ◌∷◌, length, Option, Some, None}
+use Rattle.std.proofs.Common.{◌≡◌, refl, sym, ◌∙◌, ap, ℕ, nat_eq, ◌==◌, Bool, true, false, ◌&&◌, not, List, [], ◌∷◌, length, Option, Some, None}
 use Rattle.std.specs.Option.{option_map, option_and_then, option_map_or}
 use Rattle.std.specs.List.{list_all}
 use Rattle.std.specs.Ordering.{nat_cmp}
-use Rattle.std.specs.Cmp.{nat_cmp_total, unsigned_tied, nat_eq_equiv}
-use Rattle.std.specs.FinSet.{contains, insert, contains-insert, empty, contains-empty}
+use Rattle.std.specs.Cmp.{nat_eq_equiv}
+use Rattle.std.specs.FinSet.{contains, insert, empty, contains-empty}
 use Rattle.std.proofs.lemmas.Bool.{and_parts, and_from, and_right, or_left, or_parts, or_from, not-true, eq-eqb, ne_eqb, both_ways}
 use Rattle.eon_model.specs.Lists.{numbers_differ}
 use Rattle.eon_model.specs.Network.{Fibre}
 use Rattle.eon_model.specs.Route.{nodes_along, ends_at, visits_once, walks}
 use Rattle.eon_model.specs.Sets.{NumberSet}
 use Rattle.net_graph.specs.Walks.{node_after}
-use Rattle.net_graph.proofs.WordLemmas.{same_bool}
+use Rattle.net_graph.proofs.NameOrder.{all_more}
+use Rattle.eon_model.proofs.SetLaws.{member-insert}
+use Rattle.eon_model.proofs.SetLists.{same_test}
 
 -- whether the fibres lead on from the node to t through nodes that are not in the set
 abbrev pub goes : List Fibre → NumberSet → ℕ → ℕ → List ℕ → Bool
@@ -32,16 +34,6 @@ fresh seen t (Some nodes) = (ends_at t nodes && numbers_differ nodes) && none_se
 and-true : (b : Bool) → (b && true) ≡ b
 and-true true = refl
 and-true false = refl
-
-member-insert : (s : NumberSet) (k q : ℕ) → contains (insert s k) q ≡ (nat_eq q k || contains s q)
-member-insert s k q = contains-insert nat_cmp_total s k q ∙ ap (λ b. b || contains s q) (unsigned_tied q k)
-
-all_more : {X : Type 0} (p q : X → Bool) → ((x : X) → p x ≡ true → q x ≡ true) → (xs : List X) →
-    list_all p xs ≡ true → list_all q xs ≡ true
-all_more p q more [] h = refl
-all_more p q more (x ∷ xs) h =
-    let parts = and_parts (p x) (list_all p xs) h in
-    and_from (q x) (list_all q xs) (more x parts.0) (all_more p q more xs parts.1)
 
 all_both : {X : Type 0} (p q r : X → Bool) → ((x : X) → p x ≡ true → q x ≡ true → r x ≡ true) →
     (xs : List X) → list_all p xs ≡ true → list_all q xs ≡ true → list_all r xs ≡ true
@@ -73,7 +65,7 @@ seen_apart s node q in_s out =
 core : (seen : NumberSet) (t node next : ℕ) (rest : List ℕ) → contains seen node ≡ true →
     (not (contains seen next) && fresh (insert seen next) t (Some (next ∷ rest)))
     ≡ fresh seen t (Some (node ∷ next ∷ rest))
-core seen t node next rest known = same_bool _ _
+core seen t node next rest known = same_test _ _
     (λ h.
     let a = and_parts (not (contains seen next)) _ h in
     let b = and_parts (ends_at t (next ∷ rest) && numbers_differ (next ∷ rest)) _ a.1 in
@@ -150,7 +142,7 @@ once_fresh s t (Some nodes) shape =
     let first = shape nodes refl in
     let rest = first.0 in
     ap (λ ns. visits_once (Some ns) t) first.1
-    ∙ same_bool (visits_once (Some (s ∷ rest)) t) (fresh (insert empty s) t (Some (s ∷ rest)))
+    ∙ same_test (visits_once (Some (s ∷ rest)) t) (fresh (insert empty s) t (Some (s ∷ rest)))
     (λ h.
     let e = and_parts (ends_at t (s ∷ rest)) (numbers_differ (s ∷ rest)) h in
     let d = and_parts (list_all (λ n. not (nat_eq s n)) rest) (numbers_differ rest) e.1 in

@@ -15,13 +15,12 @@ use Rattle.eon_model.specs.Sets.{meets}
 use Rattle.eon_model.proofs.ListLaws.{in_range}
 use Rattle.eon_model.proofs.Members.{any-member, any-by}
 use Rattle.eon_model.proofs.SetLaws.{common-meets}
+use Rattle.eon_model.proofs.SetLists.{same_test}
 use Rattle.net_graph.specs.Words.{has_bit, with_bit, words_meet, bits_in}
 
 -- two tests that imply one another
-pub same_bool : (a b : Bool) → (a ≡ true → b ≡ true) → (b ≡ true → a ≡ true) → a ≡ b
-same_bool true b f g = sym (f refl)
-same_bool false true f g = g refl
-same_bool false false f g = refl
+abbrev pub same_bool : (a b : Bool) → (a ≡ true → b ≡ true) → (b ≡ true → a ≡ true) → a ≡ b
+same_bool = same_test
 
 -- beyond the words no bit is 1
 pub has_bit-outside : (words : List ℕ) (q : ℕ) → 64 * length words ≤ q → has_bit words q ≡ false
@@ -181,7 +180,7 @@ bit_at_place words j r small one =
 pub meets-bits : (n : ℕ) (a b : List ℕ) → n ≡ 64 * length a → n ≡ 64 * length b →
     ((j : ℕ) → get_or a j 0 < 2 ^ 64) → meets (bits_in n a) (bits_in n b) ≡ words_meet a b
 meets-bits n a b size_a size_b fits =
-    same_bool _ _
+    same_test _ _
     (λ h.
     let found = any-member (contains (bits_in n b)) (items (bits_in n a)) h in
     let g = found.0 in
@@ -202,7 +201,7 @@ meets-bits n a b size_a size_b fits =
 
 bit_of_either : (x y : ℕ) → x < 2 → y < 2 → (max x y == 1) ≡ ((x == 1) || (y == 1))
 bit_of_either x y lx ly =
-    same_bool _ _
+    same_test _ _
     (λ h.
     let one : max x y ≡ 1 = eqb-true (max x y) 1 h in
     elim (cases_eq x 1) [

@@ -3,7 +3,9 @@
 //! `NetBuilder`, asks it by number and by name, and makes a `Route` of each list of fibres that is one.
 #![tactic(auto)]
 
+pub mod builder;
 pub mod graph;
+mod named;
 pub mod route;
 pub mod route_list;
 pub mod sets;
@@ -11,8 +13,9 @@ pub mod sets;
 mod tests;
 pub mod walk;
 
+pub use builder::NetBuilder;
 pub use eon_model::Class;
-pub use graph::{Fibre, GraphFault, Net, NetBuilder};
+pub use graph::{Fibre, GraphFault, Net};
 pub use route::Route;
 pub use route_list::RouteList;
 pub use sets::{FibreSet, NodeSet, RiskSet};
