@@ -1,9 +1,9 @@
 -- The backups of a legal state can be listed, and the services are listed one after the other.
-use Rattle.std.proofs.Common.{◌≡◌, ℕ, ◌<◌, true, ◌&&◌, ◌||◌, not, List, [], ◌∷◌, length, Option, Some, None, is_some, nat_lt}
+use Rattle.std.proofs.Common.{◌≡◌, ℕ, ◌<◌, true, ◌&&◌, ◌||◌, not, length, Option, Some, None, is_some, nat_lt}
 use Rattle.std.specs.Prelude.{IfSome, nat_le, slice_get}
 use Rattle.std.specs.Option.{option_to_list}
-use Rattle.std.specs.List.{list_all, AllByRecursion}
-use Rattle.std.proofs.lemmas.Bool.{and_parts, leb-true, ltb-true}
+use Rattle.std.specs.List.{list_all}
+use Rattle.std.proofs.lemmas.Bool.{and_parts, leb-true}
 use Rattle.std.proofs.lemmas.List.Elements.{All-from_recursion}
 use Rattle.eon_model.specs.Grid.{is_slot}
 use Rattle.eon_model.specs.Route.{share_group}
@@ -11,16 +11,12 @@ use Rattle.eon_model.specs.Services.{Path, Leg, Service, State, legs_of}
 use Rattle.eon_model.specs.Legal.{Setup, is_protected, path_fits, target_fits, backup_fits, fits, Legal}
 use Rattle.eon_model.specs.NetworkText.{is_setup}
 use Rattle.eon_model.proofs.ListLaws.{slice_get_in}
+use Rattle.eon_model.proofs.ListTests.{below-list_all}
 use Rattle.eon_model.proofs.Members.{list_all-at}
 use Rattle.eon_model.proofs.LegalLaws.{Legal-parts}
 use Rattle.eon_model.proofs.RangeLaws.{path-range}
 use Rattle.eon_model.proofs.ToldLaws.{backup-fits}
 use Rattle.failure_drill.specs.Hits.{IsNumbered, IsNumberedService}
-
-numbers_below : (n : ℕ) (xs : List ℕ) → list_all (λ i. nat_lt i n) xs ≡ true → AllByRecursion (λ i. i < n) xs
-numbers_below n [] h = tt
-numbers_below n (x ∷ xs) h =
-    let p = and_parts (nat_lt x n) (list_all (λ i. nat_lt i n) xs) h in (ltb-true x n p.0, numbers_below n xs p.1)
 
 path-numbered : (setup : Setup) (s : Service) (p : Path) → is_setup setup ≡ true → path_fits setup s p ≡ true →
     IsNumbered p
@@ -31,7 +27,7 @@ path-numbered setup s p ok h =
     let b = and_parts (nat_le 1 (length fibres) && nat_le (length fibres) 63) (list_all (λ i. nat_lt i 128) fibres) a.0 in
     record {
       few = leb-true (length fibres) 63 (and_parts (nat_le 1 (length fibres)) (nat_le (length fibres) 63) b.0).1;
-      below = All-from_recursion (λ n. n < 128) fibres (numbers_below 128 fibres b.1);
+      below = All-from_recursion (λ n. n < 128) fibres (below-list_all 128 fibres b.1);
     }
 
 back-numbered : (setup : Setup) (s : Service) (l : Leg) (back : Option Path) → is_setup setup ≡ true →

@@ -7,8 +7,6 @@ pub mod map;
 pub mod report;
 mod rows;
 pub mod stats;
-#[cfg(test)]
-mod tests;
 pub mod text;
 pub mod totals;
 

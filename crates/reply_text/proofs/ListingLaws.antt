@@ -1,12 +1,17 @@
 -- Lines that are taken one after the other.
 use Rattle.std.proofs.Common.{◌≡◌, add-one, sym, ◌∙◌, ap, ℕ, ◌+◌, ◌<◌, List, [], ◌∷◌, ◌++◌, length, take, get_or, codes, append_assoc, arith}
-use Rattle.std.specs.Prelude.{true, nat_lt, slice_get, Some, is_some, IsTrue}
-use Rattle.std.specs.List.{flat_map, list_all, AllByRecursion}
-use Rattle.std.proofs.lemmas.Bool.{and_parts, ltb-true}
+use Rattle.std.specs.Prelude.{true, nat_lt, slice_get, Option, Some, None, is_some, IsTrue, IfSome}
+use Rattle.std.specs.Option.{option_to_list}
+use Rattle.std.specs.List.{flat_map, list_all}
+use Rattle.std.proofs.lemmas.Bool.{and_parts}
 use Rattle.eon_model.specs.Formats.{format_for}
 use Rattle.eon_model.proofs.ListLaws.{slice_get_in}
+use Rattle.eon_model.proofs.ListTests.{below-list_all}
 use Rattle.eon_model.proofs.Members.{list_all-at}
-use Rattle.reply_text.specs.Tellable.{can_show}
+use Rattle.eon_model.specs.Replies.{Hit}
+use Rattle.eon_model.specs.Services.{Path}
+use Rattle.plan_report.specs.InRange.{PathInRange}
+use Rattle.reply_text.specs.Tellable.{are_fibres, can_show, can_switch}
 use Rattle.std.specs.Fmt.{decimal}
 use Rattle.std.proofs.lemmas.List.{append-nil, take_more, length-take-le}
 use Rattle.eon_model.specs.Legal.{Setup}
@@ -39,21 +44,26 @@ lines-push setup n m (s ∷ rs) r e =
     ap (λ v. route_line setup n s ++ v) (lines-push setup (n + 1) m rs r same)
     ∙ sym (append_assoc (route_line setup n s) (route_lines setup (n + 1) rs) (route_line setup m r))
 
--- ---- routes that can be shown
-
--- numbers that are tested to be below the bound
-pub numbers_in : (n : ℕ) (xs : List ℕ) → list_all (λ i. nat_lt i n) xs ≡ true → AllByRecursion (λ i. i < n) xs
-numbers_in n [] h = tt
-numbers_in n (x ∷ xs) h =
-    let p = and_parts (nat_lt x n) (list_all (λ i. nat_lt i n) xs) h in (ltb-true x n p.0, numbers_in n xs p.1)
+-- ---- routes and backups that can be shown
 
 -- the fibres of the route at a place
 pub shown_at : (setup : Setup) (rs : List Route) (i : ℕ) (r : Route) → IsTrue (list_all (can_show setup) rs) →
     slice_get rs i ≡ Some r → AreFibres setup.network.fibres r.fibres
 shown_at setup rs i r h e =
     let here = list_all-at (can_show setup) rs r h (slice_get_in rs i r e).1 in
-    numbers_in (length setup.network.fibres) r.fibres
+    below-list_all (length setup.network.fibres) r.fibres
     (and_parts (list_all (λ i. nat_lt i (length setup.network.fibres)) r.fibres) (is_some (format_for setup.formats r.km)) here).0
+
+-- the fibres of the backup at a place
+pub switched_at : (setup : Setup) (hits : List Hit) (i : ℕ) (h : Hit) → IsTrue (list_all (can_switch setup) hits) →
+    slice_get hits i ≡ Some h → IfSome h.back (PathInRange setup.network)
+switched_at setup hits i h all e = by h.back (list_all-at (can_switch setup) hits h all (slice_get_in hits i h e).1)
+  where
+    by : (back : Option Path) → list_all (λ p. are_fibres setup p.route.fibres) (option_to_list back) ≡ true →
+        IfSome back (PathInRange setup.network)
+    by None t = tt
+    by (Some p) t = below-list_all (length setup.network.fibres) p.route.fibres
+        (and_parts (are_fibres setup p.route.fibres) true t).0
 
 -- the line of one route more
 pub next_route : (setup : Setup) (rs : List Route) (i : ℕ) (r : Route) (a b c : Sent) → i < length rs →

@@ -1,6 +1,6 @@
 -- Names behind commas, and words of what may be there.
-use Rattle.std.proofs.Common.{◌≡◌, refl, sym, ◌∙◌, ap, subst, ℕ, ◌+◌, ◌<◌, List, [], ◌∷◌, ◌++◌, length, take, get_or, Option, Some, None, append_assoc}
-use Rattle.std.proofs.lemmas.List.{append-nil, take_more, map-append}
+use Rattle.std.proofs.Common.{◌≡◌, refl, sym, ◌∙◌, ap, subst, ℕ, zero, suc, ◌+◌, ◌<◌, ◌≤◌, List, [], ◌∷◌, ◌++◌, length, take, get_or, Option, Some, None, append_assoc, arith}
+use Rattle.std.proofs.lemmas.List.{append-nil, take_more, map-append, length-map, length-take-le}
 use Rattle.std.specs.Option.{option_to_list}
 use Rattle.std.specs.List.{flat_map}
 use Rattle.eon_model.specs.Network.{Fibre, fibre_at, names_of_fibres}
@@ -9,56 +9,48 @@ use Rattle.line_writer.specs.Words.{behind}
 use Rattle.line_writer.specs.Sent.{Sent, Takes}
 use Rattle.line_writer.proofs.TakesLaws.{takes-both, takes-same, takes-none}
 use Rattle.line_writer.proofs.WordLaws.{no_word}
-use Rattle.reply_text.specs.Words.{behind_commas}
+use Rattle.reply_text.specs.Words.{comma_at}
 
 -- ---- names behind commas
 
-pub commas-append : (vs ws : List (List ℕ)) → behind_commas (vs ++ ws) ≡ behind_commas vs ++ behind_commas ws
-unfolding behind_commas
-commas-append [] ws = refl
-commas-append (v ∷ vs) ws = ap (λ x. 44 ∷ v ++ x) (commas-append vs ws) ∙ sym
-    (append_assoc (44 ∷ v) (behind_commas vs) (behind_commas ws))
+listed-push : (ws : List (List ℕ)) (w : List ℕ) →
+    fibre_list (ws ++ w ∷ []) ≡ fibre_list ws ++ (comma_at (length ws) ++ w)
+unfolding comma_at
+listed-push [] w = refl
+listed-push (v ∷ []) w = refl
+listed-push (v ∷ u ∷ ws) w =
+    ap (λ x. v ++ 44 ∷ x) (listed-push (u ∷ ws) w)
+    ∙ sym (append_assoc v (44 ∷ fibre_list (u ∷ ws)) (comma_at (length (u ∷ ws)) ++ w))
 
-commas-one : (w : List ℕ) → 44 ∷ w ≡ behind_commas (w ∷ [])
-unfolding behind_commas
-commas-one w = ap (λ v. 44 ∷ v) (sym (append-nil w))
+-- no comma at the first place
+pub no_comma : (a : Sent) (i : ℕ) → i ≤ 0 → Takes a a (comma_at i)
+unfolding comma_at
+no_comma a zero l = takes-none a
+no_comma a (suc i) l = absurd (omega arith)
 
--- a comma and a name
-pub comma_name : (a b c : Sent) (w : List ℕ) → Takes a b (44 ∷ []) → Takes b c w → Takes a c (behind_commas (w ∷ []))
-comma_name a b c w p q = takes-same a c _ _ (commas-one w) (takes-both a b c (44 ∷ []) w p q)
+-- and one at each other
+pub comma_taken : (a b : Sent) (i : ℕ) → 0 < i → Takes a b (44 ∷ []) → Takes a b (comma_at i)
+unfolding comma_at
+comma_taken a b zero l p = absurd (omega arith)
+comma_taken a b (suc i) l p = p
 
--- these names and then those
-pub commas_both : (a b c : Sent) (vs ws : List (List ℕ)) → Takes a b (behind_commas vs) → Takes b c (behind_commas ws) →
-    Takes a c (behind_commas (vs ++ ws))
-commas_both a b c vs ws p q =
-    takes-same a c _ _ (sym (commas-append vs ws)) (takes-both a b c (behind_commas vs) (behind_commas ws) p q)
-
-pub fibre_list-is : (w : List ℕ) (ws : List (List ℕ)) → w ++ behind_commas ws ≡ fibre_list (w ∷ ws)
-unfolding behind_commas
-fibre_list-is w [] = append-nil w
-fibre_list-is w (v ∷ ws) = ap (λ x. w ++ (44 ∷ x)) (fibre_list-is v ws)
-
--- a first name, and those behind commas
-pub fibre_list_taken : (a b c : Sent) (w : List ℕ) (ws : List (List ℕ)) → Takes a b w → Takes b c (behind_commas ws) →
-    Takes a c (fibre_list (w ∷ ws))
-fibre_list_taken a b c w ws p q =
-    takes-same a c _ _ (fibre_list-is w ws) (takes-both a b c w (behind_commas ws) p q)
-
--- no name
-pub no_comma : (a : Sent) → Takes a a (behind_commas [])
-unfolding behind_commas
-no_comma a = takes-none a
-
-pub ruleset commas = (comma_name, commas_both, fibre_list_taken, no_comma)
+-- no fibre yet
+pub none_listed : (fs : List Fibre) (xs : List ℕ) (a : Sent) → Takes a a (fibre_list (names_of_fibres fs (take 0 xs)))
+none_listed fs xs a = takes-none a
 
 -- one fibre more
 pub next_fibre : (fs : List Fibre) (xs : List ℕ) (i : ℕ) (a b c : Sent) → i < length xs →
-    Takes a b (behind_commas (names_of_fibres fs (take i xs))) →
-    Takes b c (behind_commas ((fibre_at fs (get_or xs i 0)).name ∷ [])) →
-    Takes a c (behind_commas (names_of_fibres fs (take (i + 1) xs)))
+    Takes a b (fibre_list (names_of_fibres fs (take i xs))) →
+    Takes b c (comma_at i ++ (fibre_at fs (get_or xs i 0)).name) →
+    Takes a c (fibre_list (names_of_fibres fs (take (i + 1) xs)))
 next_fibre fs xs i a b c l p q =
+    let before = names_of_fibres fs (take i xs) in
+    let name = (fibre_at fs (get_or xs i 0)).name in
+    let count : length before ≡ i = length-map (take i xs) (λ (n : ℕ). (fibre_at fs n).name) ∙ length-take-le i xs (omega arith) in
     rw (take_more xs i 0 l, map-append (λ (n : ℕ). (fibre_at fs n).name) (take i xs) (get_or xs i 0 ∷ []))
-    (commas_both a b c (names_of_fibres fs (take i xs)) ((fibre_at fs (get_or xs i 0)).name ∷ []) p q)
+    (takes-same a c _ _
+    (ap (λ k. fibre_list before ++ (comma_at k ++ name)) (sym count) ∙ sym (listed-push before name))
+    (takes-both a b c (fibre_list before) (comma_at i ++ name) p q))
 
 -- ---- what may be there
 

@@ -34,6 +34,7 @@ reply_told (reply.Refitted name from to) = said.Reply.Refitted name from to
 reply_told (reply.Show name) = said.Reply.Show name
 reply_told reply.List = said.Reply.List
 reply_told (reply.Routes routes) = said.Reply.Routes routes
+reply_told (reply.Drill group hits) = said.Reply.Drill group hits
 reply_told (reply.Map text) = said.Reply.Map text
 reply_told (reply.Stats stats) = said.Reply.Stats stats
 reply_told (reply.Report text) = said.Reply.Report text

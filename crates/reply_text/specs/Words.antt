@@ -1,7 +1,7 @@
 -- Names with a comma between two of them.
-use Rattle.std.specs.Prelude.{ℕ, List, [], ◌∷◌, ◌++◌}
+use Rattle.std.specs.Prelude.{ℕ, zero, suc, List, [], ◌∷◌}
 
--- the bytes, each text behind a comma
-unfoldable pub behind_commas : List (List ℕ) → List ℕ
-behind_commas [] = []
-behind_commas (w ∷ ws) = 44 ∷ w ++ behind_commas ws
+-- a comma, but before the first name
+unfoldable pub comma_at : ℕ → List ℕ
+comma_at zero = []
+comma_at (suc n) = 44 ∷ []

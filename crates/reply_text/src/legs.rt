@@ -1,64 +1,24 @@
 //! The words of legs.
-ghost use Rattle.std.specs.Prelude.{◌≡◌, ◌<◌, [], ◌∷◌, ◌++◌, length, IfSome};
-ghost use Rattle.eon_model.specs.Network.{AreFibres, fibre_at, name_at, names_of_fibres};
+ghost use Rattle.std.specs.Prelude.{◌≡◌, [], ◌∷◌, IfSome};
+ghost use Rattle.std.specs.Fmt.{decimal, signed_decimal};
 ghost use Rattle.eon_model.specs.ReplyText.{path_words, backup_words, leg_words, target_words, new_leg_words};
-ghost use Rattle.eon_model.specs.Spelling.{fibre_list};
 ghost use Rattle.plan_report.specs.InRange.{PathInRange, LegInRange};
 ghost use Rattle.line_writer.specs.Words.{behind};
 ghost use Rattle.line_writer.specs.Sent.{Takes};
-ghost use Rattle.reply_text.specs.Words.{behind_commas};
 
+use crate::fibre_lists::put_fibres;
+use flex_grid::slot::Slot;
 use leg_state::{Leg, Path};
 use line_writer::{TextSink, put_centre, put_number, put_word};
 use net_graph::Net;
 
-// The name of this fibre.
-fn put_fibre<W: TextSink>(net: &Net, fibre: u8, out: &mut W)
-    requires { fibre < length net.now.fibres }
-    ensures { Takes (W.sent out.old) (W.sent out.new) (fibre_at net.now.fibres fibre).name }
+/// The centre and the width of a slot.
+#[tactic(auto, using(line_writer::proofs::WordLaws::words))]
+pub(crate) fn put_slot<W: TextSink>(slot: &Slot, out: &mut W)
+    ensures { Takes (W.sent out.old) (W.sent out.new) (behind (signed_decimal slot.now.n ∷ decimal slot.now.m ∷ [])) }
 {
-    out.put(net.fibre(fibre).name.bytes());
-}
-
-// A comma and the name of this fibre.
-#[tactic(auto, using(crate::proofs::WordLaws::commas))]
-fn put_next_fibre<W: TextSink>(net: &Net, fibre: u8, out: &mut W)
-    requires { fibre < length net.now.fibres }
-    ensures { Takes (W.sent out.old) (W.sent out.new) (behind_commas ((fibre_at net.now.fibres fibre).name ∷ [])) }
-{
-    out.put(b",");
-    put_fibre(net, fibre, out);
-}
-
-// A comma and a name for each of these fibres.
-fn put_next_fibres<W: TextSink>(net: &Net, fibres: &[u8], out: &mut W)
-    requires { AreFibres net.now.fibres fibres.now }
-    ensures { Takes (W.sent out.old) (W.sent out.new) (behind_commas (names_of_fibres net.now.fibres fibres.now)) }
-{
-    for fibre in fibres {
-        put_next_fibre(net, *fibre, out);
-    }
-}
-
-// The names of these fibres, with one comma between two of them.
-fn put_fibre_list<W: TextSink>(net: &Net, fibres: &[u8], out: &mut W)
-    requires { AreFibres net.now.fibres fibres.now }
-    ensures { Takes (W.sent out.old) (W.sent out.new) (fibre_list (names_of_fibres net.now.fibres fibres.now)) }
-{
-    if let Some((first, others)) = fibres.split_first() {
-        put_fibre(net, *first, out);
-        put_next_fibres(net, others, out);
-    }
-}
-
-/// The fibre list of these fibres.
-#[tactic(auto, using(line_writer::proofs::WordLaws::one_word))]
-pub(crate) fn put_fibres<W: TextSink>(net: &Net, fibres: &[u8], out: &mut W)
-    requires { AreFibres net.now.fibres fibres.now }
-    ensures { Takes (W.sent out.old) (W.sent out.new) (behind (fibre_list (names_of_fibres net.now.fibres fibres.now) ∷ [])) }
-{
-    out.put(b" ");
-    put_fibre_list(net, fibres, out);
+    put_centre(slot.n(), out);
+    put_number(slot.m() as u64, out);
 }
 
 #[tactic(auto, using(line_writer::proofs::WordLaws::words))]
@@ -67,8 +27,7 @@ fn put_path<W: TextSink>(net: &Net, path: &Path, out: &mut W)
     ensures { Takes (W.sent out.old) (W.sent out.new) (behind (path_words net.now path.now)) }
 {
     put_fibres(net, path.route.fibres(), out);
-    put_centre(path.slot.n(), out);
-    put_number(path.slot.m() as u64, out);
+    put_slot(&path.slot, out);
 }
 
 #[tactic(auto, using(line_writer::proofs::WordLaws::words))]

@@ -3,6 +3,8 @@
 //! it is printed.
 #![tactic(auto)]
 
+mod drills;
+mod fibre_lists;
 mod in_memory;
 mod legs;
 mod listing;

@@ -11,7 +11,7 @@ ghost use Rattle.line_writer.specs.Words.{behind};
 ghost use Rattle.line_writer.specs.Sent.{Takes};
 ghost use Rattle.reply_text.specs.Tellable.{can_show};
 
-use crate::legs::put_fibres;
+use crate::fibre_lists::put_fibres;
 use crate::services::put_service;
 use leg_state::Services;
 use line_writer::{TextSink, end_line, put_name, put_number, put_word};

@@ -10,6 +10,7 @@ ghost use Rattle.reply_text.specs.Replied.{reply_told};
 ghost use Rattle.line_writer.specs.Sent.{Takes};
 ghost use Rattle.reply_text.specs.Tellable.{can_tell};
 
+use crate::drills::put_drill;
 use crate::listing::{put_routes, put_services};
 use crate::reply::Reply;
 use crate::services::{put_named, put_old_leg, put_second_leg};
@@ -185,6 +186,7 @@ pub(crate) fn put_reply<W: TextSink>(r: &Reply, setup: &NetSetup, services: &Ser
         Reply::Show { name } => put_named(setup, services, name, out),
         Reply::List => put_services(setup, services, out),
         Reply::Routes { routes } => put_routes(setup, routes, out),
+        Reply::Drill { group, hits } => put_drill(setup, group, hits, out),
         Reply::Map { text } => out.put(text.bytes()),
         Reply::Stats { stats } => put_stats(stats, out),
         Reply::Report { text } => put_text(text.bytes(), out),

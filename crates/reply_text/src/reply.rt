@@ -1,6 +1,7 @@
 //! What the planner says.
 use eon_base::name::Name;
 use eon_model::Part;
+use failure_drill::DrillList;
 use net_graph::RouteList;
 use plan_report::{Stats, Text};
 
@@ -66,6 +67,8 @@ pub enum Reply {
     List,
     /// Routes in order.
     Routes { routes: RouteList },
+    /// The legs that the failure of this group takes down, each with the backup that takes over.
+    Drill { group: Name, hits: DrillList },
     /// The map of a fibre, with its line ends.
     Map { text: Text },
     /// The totals.

@@ -99,6 +99,9 @@ returns-in-List g c = rw c.in-List.is c.put_services.ensures
 pub returns-in-Routes : goal.returns-in-Routes
 returns-in-Routes g c = rw c.in-Routes.is c.put_routes.ensures
 
+pub returns-in-Drill : goal.returns-in-Drill
+returns-in-Drill g c = rw c.in-Drill.is c.put_drill.ensures
+
 pub returns-in-Map : goal.returns-in-Map
 returns-in-Map g c =
     let text = rw c.bytes.ensures at c.put.ensures in
