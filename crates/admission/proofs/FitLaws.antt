@@ -16,6 +16,7 @@ use Rattle.eon_model.proofs.SetLists.{same_test}
 use Rattle.eon_model.proofs.SuitLaws.{SuitsRate, SuitsBack, Suits, HasBack}
 use Rattle.admission.specs.FirstClear.{stands_in}
 use Rattle.admission.proofs.SpanLaws.{slot_in}
+use Rattle.eon_model.proofs.FirstRows.{held}
 
 -- ---- paths
 
@@ -28,12 +29,6 @@ slot_stands band slot ok =
     let p = and_parts (is_slot slot) (lies_in_band band (units_of slot)) h in
     let q = and_parts (nat_le 1 slot.m && nat_le slot.m 512) (is_units (units_of slot)) p.0 in
     and_from _ _ (and_parts (nat_le 1 slot.m) (nat_le slot.m 512) q.0).0 p.1)
-
-held : (a b c d : Bool) → a ≡ true → c ≡ true → (((a && b) && c) && d) ≡ (b && d)
-held true true true d e f = refl
-held true false true d e f = refl
-held true b false d e f = cc
-held false b c d e f = cc
 
 path_stands : (setup : Setup) (s : Service) (r : SizedRoute) (n : ℤ) → is_band setup.band ≡ true →
     SuitsRate setup s.src s.dst s.rate r →

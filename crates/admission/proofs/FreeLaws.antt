@@ -7,10 +7,10 @@ use Rattle.std.proofs.lemmas.Bool.{and_parts, and_from, or_parts, or_from, leb-t
 use Rattle.eon_model.specs.Grid.{Units, Band, has_unit, overlaps, lies_in, span_of, unit_count, is_band}
 use Rattle.eon_model.proofs.GridLaws.{int_le-le, le-int_le, lies_in-facts, overlaps-facts, common-overlaps}
 use Rattle.eon_model.proofs.SetLists.{same_test}
-use Rattle.admission.proofs.SpanLaws.{span-facts}
 use Rattle.admission.specs.declared.row.Row.{Row}
 use Rattle.admission.specs.Free.{is_taken, are_free, are_within, Takes}
 use Rattle.eon_model.proofs.UnitLaws.{all-at, all-from}
+use Rattle.eon_model.proofs.SpanLaws.{span-facts}
 
 -- ---- units of a row
 

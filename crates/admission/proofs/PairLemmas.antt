@@ -1,7 +1,7 @@
 -- The first placement on one pair of routes: the least centre of the working path, and the least one of the
 -- backup.
-use Rattle.std.proofs.Common.{◌≡◌, refl, sym, ◌∙◌, ap, ℕ, zero, suc, ◌+◌, ◌<◌, arith, length, ℤ, Bool, true, false, cond, ◌&&◌, List, [], ◌∷◌, map, find, drop, Option, Some, None}
-use Rattle.std.specs.List.{list_all, flat_map}
+use Rattle.std.proofs.Common.{◌≡◌, refl, sym, ◌∙◌, ap, ℕ, zero, suc, ◌+◌, ◌<◌, arith, length, ℤ, Bool, true, false, ◌&&◌, List, ◌∷◌, find, drop, Option, Some, None}
+use Rattle.std.specs.List.{list_all}
 use Rattle.std.specs.Option.{option_map, option_and_then, option_to_list, option_or}
 use Rattle.std.proofs.lemmas.List.Folds.{find-append}
 use Rattle.eon_model.specs.declared.Class.{Class}
@@ -16,60 +16,7 @@ use Rattle.admission.specs.declared.placing.Found.{Found}
 use Rattle.admission.specs.declared.placing.Admit.TheVariants.{Placed}
 use Rattle.admission.specs.Told.{found_at, answer_for}
 use Rattle.admission.proofs.SplitLemmas.{stand_split}
-
--- ---- a search over all pairs of two lists
-
-pub find-same : {X : Type 0} (f g : X → Bool) → ((x : X) → f x ≡ g x) → (xs : List X) → find f xs ≡ find g xs
-find-same f g h [] = refl
-find-same f g h (x ∷ xs) = λ i. cond (h x i) (Some x) (find-same f g h xs i)
-
-find-map : {X Y : Type 0} (p : Y → Bool) (f : X → Y) (xs : List X) →
-    find p (map f xs) ≡ option_map f (find (λ x. p (f x)) xs)
-find-map p f [] = refl
-find-map p f (x ∷ xs) = by (p (f x)) (find-map p f xs)
-  where
-    by : (b : Bool) → find p (map f xs) ≡ option_map f (find (λ x. p (f x)) xs) →
-        cond b (Some (f x)) (find p (map f xs)) ≡ option_map f (cond b (Some x) (find (λ x. p (f x)) xs))
-    by true rest = refl
-    by false rest = rest
-
--- both, where both are there
-abbrev pub both_found : {X Y Z : Type 0} → (X → Y → Z) → Option X → Option Y → Option Z
-both_found make None y = None
-both_found make (Some x) y = option_map (make x) y
-
-module _ {X Y Z : Type 0} (one : X → Bool) (other : Y → Bool) (make : X → Y → Z) (test : Z → Bool)
-    (h : (x : X) (y : Y) → test (make x y) ≡ (one x && other y)) (ys : List Y) where
-  find-row : (x : X) → find test (map (make x) ys) ≡ cond (one x) (option_map (make x) (find other ys)) None
-  find-row x =
-      find-map test (make x) ys
-      ∙ ap (option_map (make x)) (find-same (λ y. test (make x y)) (λ y. one x && other y) (h x) ys)
-      ∙ by (one x)
-    where
-      none : (zs : List Y) → find (λ y. false) zs ≡ None
-      none [] = refl
-      none (z ∷ zs) = none zs
-
-      by : (b : Bool) → option_map (make x) (find (λ y. b && other y) ys)
-          ≡ cond b (option_map (make x) (find other ys)) None
-      by true = refl
-      by false = ap (option_map (make x)) (none ys)
-
-  pub find-both : (xs : List X) →
-      find test (flat_map (λ x. map (make x) ys) xs) ≡ both_found make (find one xs) (find other ys)
-  find-both [] = refl
-  find-both (x ∷ xs) =
-      find-append test (map (make x) ys) (flat_map (λ x. map (make x) ys) xs)
-      ∙ (λ i. option_or (find-row x i) (find-both xs i))
-      ∙ by (one x) (find other ys) (find one xs)
-    where
-      by : (b : Bool) (y : Option Y) (rest : Option X) →
-          option_or (cond b (option_map (make x) y) None) (both_found make rest y)
-          ≡ both_found make (cond b (Some x) rest) y
-      by true None None = refl
-      by true None (Some z) = refl
-      by true (Some y) rest = refl
-      by false y rest = refl
+use Rattle.eon_model.proofs.FirstRows.{find_same, find_map, find_both, both_found}
 
 -- ---- the placements of a candidate
 
@@ -84,9 +31,9 @@ module _ (list : State) (band : Band) (class : Class) (own : Option Leg) where
       ≡ back_found list band class own work o
   backs work None = refl
   backs work (Some b) =
-      find-map (λ n. list_all (back_fits list band own class work) (option_to_list (option_map (path_at b) n)))
+      find_map (λ n. list_all (back_fits list band own class work) (option_to_list (option_map (path_at b) n)))
       (λ n. Some n) (centres_in band)
-      ∙ ap (option_map (λ n. Some n)) (find-same _ (λ n. back_fits list band own class work (path_at b n))
+      ∙ ap (option_map (λ n. Some n)) (find_same _ (λ n. back_fits list band own class work (path_at b n))
       (λ n. and_true (back_fits list band own class work (path_at b n))) (centres_in band))
 
   find-placements : (rank : ℕ) (c : Candidate) →
@@ -94,7 +41,7 @@ module _ (list : State) (band : Band) (class : Class) (own : Option Leg) where
       ≡ both_found (λ n b. record { candidate = c; rank = rank; work_n = n; back_n = b })
       (work_found list band c.work) (back_found list band class own c.work.route c.back)
   find-placements rank c =
-      find-both (λ n. work_fits list band (path_at c.work n))
+      find_both (λ n. work_fits list band (path_at c.work n))
       (λ n. list_all (back_fits list band own class c.work.route)
       (option_to_list (option_and_then (λ b. option_map (path_at b) n) c.back)))
       (λ n b. record { candidate = c; rank = rank; work_n = n; back_n = b }) (placement_stands list band class own)

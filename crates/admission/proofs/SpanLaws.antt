@@ -1,6 +1,6 @@
 -- The span of a band, from its lowest to its highest unit, and the gaps between its parts.
 use Rattle.std.proofs.Common.{◌≡◌, refl, sym, ◌∙◌, ap, subst, ℕ, zero, suc, ◌<◌, ◌≤◌, ℤ, pos, negsuc, ◌+ℤ◌, ◌-ℤ◌, ◌≤ℤ◌, ◌<ℤ◌, arith, Bool, true, false, ◌&&◌, ◌||◌, not, List, [], ◌∷◌, length, drop, ◌-◌, ◌⊎◌, inl, inr, slice_index_or, w32, to_z, of_z, FitsSigned}
-use Rattle.std.specs.Prelude.{int_le, nat_le, nat_abs}
+use Rattle.std.specs.Prelude.{int_le, nat_abs}
 use Rattle.std.specs.List.{list_all}
 use Rattle.std.proofs.lemmas.Int.{ints}
 use Rattle.std.proofs.lemmas.Bool.{and_parts, and_from, le-leb, both_ways, false_from_ne_true, not_from_false, cases_Bool}
@@ -10,12 +10,9 @@ use Rattle.eon_model.proofs.BandLaws.{BandParts, band-parts, in_span}
 use Rattle.eon_model.proofs.SlotSteps.{int_le-false}
 use Rattle.flex_grid.proofs.GridFacts.{UnitsInRange, units-facts}
 use Rattle.admission.specs.Free.{are_within, gaps_of}
+use Rattle.eon_model.proofs.SpanLaws.{span-lo, SpanFacts, span-facts}
 
 -- ---- ends
-
-span-lo : (part : Units) (parts : Band) → (span_from part parts).lo ≡ part.lo
-span-lo part [] = refl
-span-lo part (next ∷ parts) = refl
 
 -- each part in range, and above the one before
 record Parts (part : Units) (parts : Band) : Type 0 where
@@ -40,52 +37,6 @@ gap_between : (part next : Units) (parts : Band) → Parts part (next ∷ parts)
 gap_between part next parts p =
     int_le-le (part.hi +ℤ pos 2) next.lo
     (and_parts (int_le (part.hi +ℤ pos 2) next.lo) (parts_ascend (next ∷ parts)) p.ascend).0
-
--- the span ends at or above the end of its first part, and within the grid
-record Ends (part : Units) (hi : ℤ) : Type 0 where
-  above : part.hi ≤ℤ hi
-  high : hi ≤ℤ pos 4095
-
-ends-of : (part : Units) (parts : Band) → Parts part parts → Ends part (span_from part parts).hi
-ends-of part [] p =
-    let here = p.here in
-    let high = here.high in record { above = omega (arith, ints); high = high }
-ends-of part (next ∷ parts) p =
-    let more = ends-of next parts (later-parts part next parts p) in
-    let next_above = more.above in
-    let apart = gap_between part next parts p in
-    let facts = (later-parts part next parts p).here in
-    let order = facts.order in
-    record { above = omega (arith, ints); high = more.high }
-
-band-wide : (band : Band) → is_band band ≡ true → ((span_of band).hi -ℤ (span_of band).lo) ≤ℤ pos 1023
-band-wide band h =
-    int_le-le _ _ (and_parts (nat_le 1 (length band) && nat_le (length band) 8 && list_all is_units band
-    && parts_ascend band) (int_le ((span_of band).hi -ℤ (span_of band).lo) (pos 1023)) h).1
-
-pub record SpanFacts (span : Units) : Type 0 where
-  pub low : negsuc 4095 ≤ℤ span.lo
-  pub order : span.lo ≤ℤ span.hi
-  pub high : span.hi ≤ℤ pos 4095
-  pub wide : (span.hi -ℤ span.lo) ≤ℤ pos 1023
-
-pub span-facts : (band : Band) → is_band band ≡ true → SpanFacts (span_of band)
-span-facts [] ok = absurd (both_ways false refl ok)
-span-facts (part ∷ parts) ok =
-    let p = band-parts (part ∷ parts) ok in
-    let all = parts-of part parts p.units p.ascend in
-    let here = all.here in
-    let low = here.low in
-    let order = here.order in
-    let ends = ends-of part parts all in
-    let above = ends.above in
-    let first = span-lo part parts in
-    record {
-      low = subst (λ (z : ℤ). negsuc 4095 ≤ℤ z) (sym first) low;
-      order = subst (λ (z : ℤ). z ≤ℤ (span_from part parts).hi) (sym first) (omega (arith, ints));
-      high = ends.high;
-      wide = band-wide (part ∷ parts) ok;
-    }
 
 -- what is at least 1 wide and lies in the span is a slot
 pub slot_in_span : (band : Band) (slot : Slot) → is_band band ≡ true → 1 ≤ slot.m →

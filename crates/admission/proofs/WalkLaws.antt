@@ -12,10 +12,11 @@ use Rattle.eon_model.proofs.BandLaws.{band-parts, in_span}
 use Rattle.admission.specs.FirstClear.{stands_in}
 use Rattle.admission.specs.declared.row.Row.{Row}
 use Rattle.admission.specs.Free.{is_taken, are_free, fits_free, IsFreeWhere, EndsRun, IsFirstRun}
-use Rattle.admission.proofs.SpanLaws.{span-facts, slot_in_span}
+use Rattle.admission.proofs.SpanLaws.{slot_in_span}
 use Rattle.admission.proofs.FreeLaws.{free-at, free-from}
-use Rattle.admission.proofs.PairLemmas.{find-same}
 use Rattle.admission.proofs.UnitLemmas.{first-at, first-none}
+use Rattle.eon_model.proofs.FirstRows.{find_same}
+use Rattle.eon_model.proofs.SpanLaws.{span-facts}
 
 abbrev slot_at : ℤ → ℕ → Slot
 slot_at n m = record { n = n; m = m }
@@ -164,7 +165,7 @@ pub least-where : (row : Row) (band : Band) (test : Units → Bool) (m : ℕ) �
 least-where row band test m ok f =
     ap (λ (b : Band). find (λ n. (is_slot (slot_at n m) && lies_in (span_of b) (units_of (slot_at n m)))
     && are_free row (units_of (slot_at n m))) (centres_in b)) f.of_band
-    ∙ find-same (λ n. (is_slot (slot_at n m) && lies_in (span_of band) (units_of (slot_at n m)))
+    ∙ find_same (λ n. (is_slot (slot_at n m) && lies_in (span_of band) (units_of (slot_at n m)))
     && are_free row (units_of (slot_at n m)))
     (λ n. stands_in band (slot_at n m) && test (units_of (slot_at n m))) (λ n. same (slot_at n m)) (centres_in band)
   where

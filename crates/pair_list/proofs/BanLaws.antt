@@ -3,8 +3,8 @@ use Rattle.std.proofs.Common.{◌≡◌, refl, sym, ◌∙◌, ap, ℕ, ◌+◌,
 use Rattle.std.specs.Prelude.{nat_le, IfSome}
 use Rattle.std.specs.List.{list_any, range_with_len}
 use Rattle.std.specs.Ordering.{nat_cmp}
-use Rattle.std.specs.Cmp.{nat_cmp_total, unsigned_tied, nat_eq_equiv}
-use Rattle.std.specs.FinSet.{contains, insert, contains-insert, empty, contains-empty}
+use Rattle.std.specs.Cmp.{nat_eq_equiv}
+use Rattle.std.specs.FinSet.{contains, insert, empty, contains-empty}
 use Rattle.std.proofs.lemmas.Bool.{cases_lt, eq-eqb, ne_eqb}
 use Rattle.std.proofs.lemmas.List.{append-nil}
 use Rattle.eon_model.specs.Candidates.{is_avoided, fails_with}
@@ -18,9 +18,7 @@ use Rattle.eon_model.specs.NetworkText.{is_setup}
 use Rattle.eon_model.proofs.SetupLaws.{setup-network, network-parts}
 use Rattle.eon_model.proofs.OrderLaws.{AllOf}
 use Rattle.eon_model.proofs.ListLaws.{AllOf-more, AllOf-map, AllOf-filter, lists_of_kind, range_below}
-
-member-insert : (s : NumberSet) (k q : ℕ) → contains (insert s k) q ≡ (nat_eq q k || contains s q)
-member-insert s k q = contains-insert nat_cmp_total s k q ∙ ap (λ b. b || contains s q) (unsigned_tied q k)
+use Rattle.eon_model.proofs.SetLaws.{member-insert}
 
 or_none : (b : Bool) → (b || false) ≡ b
 or_none true = refl

@@ -1,5 +1,5 @@
 -- Routes put in one after another, as far as they are within reach.
-use Rattle.std.proofs.Common.{◌≡◌, refl, sym, ◌∙◌, ap, ℕ, zero, suc, ◌+◌, ◌<◌, List, [], ◌∷◌, ◌++◌, map, length, take, Option, Some, None, slice_get, append_assoc, add-one, arith}
+use Rattle.std.proofs.Common.{◌≡◌, refl, sym, ◌∙◌, ap, ℕ, zero, suc, ◌+◌, ◌<◌, List, [], ◌∷◌, ◌++◌, length, take, Option, Some, None, slice_get, append_assoc, add-one, arith}
 use Rattle.std.specs.List.{filter_map, cons_option}
 use Rattle.std.specs.Option.{option_and_then, option_to_list}
 use Rattle.std.proofs.lemmas.List.{map-append}
@@ -8,10 +8,7 @@ use Rattle.eon_model.specs.declared.Class.{Class}
 use Rattle.eon_model.specs.declared.Class.TheVariants.{Bare, Shared, Dual}
 use Rattle.eon_model.specs.Legal.{Setup}
 use Rattle.eon_model.specs.Candidates.{SizedRoute, alone, backed, candidates_over}
-
-one_more : {X : Type 0} (o : Option X) → cons_option o [] ≡ option_to_list o
-one_more None = refl
-one_more (Some x) = refl
+use Rattle.eon_model.proofs.ListTests.{cons-option}
 
 cons_append : {X : Type 0} (o : Option X) (xs ys : List X) → cons_option o (xs ++ ys) ≡ cons_option o xs ++ ys
 cons_append None xs ys = refl
@@ -25,7 +22,7 @@ filter_map_first : {X Y : Type 0} (f : X → Option Y) (xs : List X) (n : ℕ) �
     filter_map f (take (suc n) xs) ≡ filter_map f (take n xs) ++ option_to_list (option_and_then f (slice_get xs n))
 filter_map_first f [] n l = absurd (omega arith)
 filter_map_first f (x ∷ xs) zero l =
-    ap (λ ys. cons_option (f x) (filter_map f ys)) (none_taken xs) ∙ one_more (f x)
+    ap (λ ys. cons_option (f x) (filter_map f ys)) (none_taken xs) ∙ cons-option (f x)
 filter_map_first f (x ∷ xs) (suc n) l =
     ap (cons_option (f x)) (filter_map_first f xs n (omega arith))
     ∙ cons_append (f x) (filter_map f (take n xs)) (option_to_list (option_and_then f (slice_get xs n)))
@@ -50,9 +47,6 @@ pub put-step : {X Y Z : Type 0} (h : List Y → List Z) → ((ys zs : List Y) �
     now ≡ old ++ h (option_to_list o) → now ≡ start ++ h (filter_map f (take (n + 1) xs))
 put-step h joins f xs n start old now o l before found put =
     put ∙ (λ i. before i ++ h (option_to_list (found i))) ∙ put-more h joins f xs n start l
-
-pub map-joins : {X Y : Type 0} (f : X → Y) (xs ys : List X) → map f (xs ++ ys) ≡ map f xs ++ map f ys
-map-joins f xs ys = map-append f xs ys
 
 pub over-joins : (setup : Setup) (s t rate : ℕ) (class : Class) (xs ys : List SizedRoute) →
     candidates_over setup s t rate class (xs ++ ys)

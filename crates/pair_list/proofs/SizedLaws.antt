@@ -1,48 +1,32 @@
 -- Each candidate has routes of the network between its nodes, with the widths that the rate needs on them.
-use Rattle.std.proofs.Common.{◌≡◌, refl, sym, ◌∙◌, ap, ℕ, zero, suc, ◌+◌, ◌≤◌, Bool, true, ◌&&◌, List, [], ◌∷◌, find, Option, Some, None, arith}
+use Rattle.std.proofs.Common.{◌≡◌, refl, ap, ℕ, zero, suc, ◌+◌, ◌≤◌, true, List, [], ◌∷◌, Option, Some, None, arith}
 use Rattle.std.specs.Prelude.{nat_le}
 use Rattle.std.specs.List.{list_all}
 use Rattle.std.specs.Option.{option_map, option_to_list}
 use Rattle.std.proofs.Math.Nat.{div-le_of_le-mul}
-use Rattle.std.proofs.lemmas.Bool.{and_parts, and_from, leb-true, le-leb, eqb-true}
-use Rattle.std.proofs.lemmas.List.Folds.{list_all-append}
+use Rattle.std.proofs.lemmas.Bool.{and_from, le-leb, eqb-true}
 use Rattle.eon_model.specs.declared.Class.{Class}
 use Rattle.eon_model.specs.declared.Class.TheVariants.{Bare, Shared, Dual}
-use Rattle.eon_model.specs.Names.{is_name}
-use Rattle.eon_model.specs.Numerals.{is_within}
 use Rattle.eon_model.specs.CommandText.{is_rate}
 use Rattle.eon_model.specs.NetworkText.{is_format, is_setup}
 use Rattle.eon_model.specs.Formats.{Format, reaching, format_for, div_ceil}
 use Rattle.eon_model.specs.Legal.{Setup, need_of, is_exactly}
 use Rattle.eon_model.specs.Candidates.{SizedRoute, Candidate, candidates}
 use Rattle.eon_model.proofs.OrderLaws.{AllOf}
-use Rattle.eon_model.proofs.FindLaws.{find-in}
+use Rattle.eon_model.proofs.FindLaws.{find_has}
 use Rattle.eon_model.proofs.PairLaws.{list_all-filter}
-use Rattle.eon_model.proofs.WidthLaws.{need-positive}
+use Rattle.eon_model.proofs.WidthLaws.{need-positive, format_positive}
 use Rattle.eon_model.proofs.SetupFacts.{setup-facts}
 use Rattle.eon_model.proofs.SuitLaws.{SuitsRate, SuitsBack, Suits, candidates-suit}
 use Rattle.pair_list.specs.Sized.{is_sized, is_sized_candidate}
 
 -- ---- widths
 
-find_has : {X : Type 0} (test p : X → Bool) (xs : List X) (x : X) → find p xs ≡ Some x →
-    list_all test xs ≡ true → test x ≡ true
-find_has test p xs x e h =
-    let f = find-in p xs x e in
-    let all = and_parts (list_all test f.before) (list_all test (x ∷ f.after))
-    (sym (list_all-append test f.before (x ∷ f.after)) ∙ ap (list_all test) (sym f.is) ∙ h) in
-    (and_parts (test x) (list_all test f.after) all.1).0
-
 rounded_small : (rate per : ℕ) → 1 ≤ rate → 1 ≤ per → div_ceil rate per ≤ rate
 rounded_small zero per r p = absurd (omega arith)
 rounded_small (suc rate) zero r p = absurd (omega arith)
 rounded_small (suc rate) (suc per) r p =
     div-le_of_le-mul (suc per) (omega arith)
-
-per_positive : (f : Format) → is_format f ≡ true → 1 ≤ f.per
-per_positive f h =
-    let a = and_parts (is_name f.name && is_within 1 100000 f.reach) (is_within 1 10000 f.per) h in
-    leb-true 1 f.per (and_parts (nat_le 1 f.per) (nat_le f.per 10000) a.1).0
 
 need_small : (rows : List Format) (guard rate m km : ℕ) (found : Option Format) → format_for rows km ≡ found →
     list_all is_format rows ≡ true → guard ≤ 64 → 1 ≤ rate → rate ≤ 60000 →
@@ -51,7 +35,7 @@ need_small rows guard rate m km None e h g r l x = cc
 need_small rows guard rate m km (Some f) e h g r l x =
     let among = find_has is_format (λ f. list_all (λ g. nat_le g.per f.per) (reaching rows km))
     (reaching rows km) f e (list_all-filter is_format (λ f. nat_le km f.reach) rows h) in
-    let small = rounded_small rate f.per r (per_positive f among) in
+    let small = rounded_small rate f.per r (format_positive f among) in
     let same : div_ceil rate f.per + guard ≡ m = cc in
     omega arith
 

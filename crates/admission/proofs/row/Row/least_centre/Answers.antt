@@ -4,9 +4,9 @@ use Rattle.eon_model.specs.Grid.{unit_count, span_of, is_band}
 use Rattle.eon_model.specs.FirstFit.{centres_in}
 use Rattle.admission.specs.declared.row.Row.{Row}
 use Rattle.admission.specs.Free.{EndsRun, IsFirstRun}
-use Rattle.admission.proofs.SpanLaws.{span-facts}
 use Rattle.admission.proofs.WalkLaws.{has_room, first_centre, no_centre, no_width, centre_of, centre_low, centre_high, place_below}
 use Rattle.admission.proofs.row.Row.least_centre.Goals as goal
+use Rattle.eon_model.proofs.SpanLaws.{span-facts}
 
 pub returns-then-m-eq0 : goal.returns-then-m-eq0
 returns-then-m-eq0 c =

@@ -1,8 +1,8 @@
 use Rattle.std.proofs.Common.{◌≡◌, w32, to_z, of_z, arith}
 use Rattle.std.proofs.lemmas.Int.{ints}
 use Rattle.eon_model.specs.Grid.{span_of}
-use Rattle.admission.proofs.SpanLaws.{span-facts}
 use Rattle.admission.proofs.row.Row.len.Goals as goal
+use Rattle.eon_model.proofs.SpanLaws.{span-facts}
 
 pub place-requires : goal.place-requires
 place-requires c =

@@ -1,8 +1,9 @@
 use Rattle.std.proofs.Common.{◌≡◌, arith}
 use Rattle.std.proofs.lemmas.Int.{ints}
 use Rattle.eon_model.specs.Grid.{span_of}
-use Rattle.admission.proofs.SpanLaws.{span-facts, place-is}
+use Rattle.admission.proofs.SpanLaws.{place-is}
 use Rattle.admission.proofs.row.Row.place.Goals as goal
+use Rattle.eon_model.proofs.SpanLaws.{span-facts}
 
 pub overflow_sub-result : goal.overflow_sub-result
 overflow_sub-result c =
