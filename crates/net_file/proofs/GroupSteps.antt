@@ -21,7 +21,7 @@ use Rattle.net_file.specs.Drafts.{rank, net_words, lines_of, Sound}
 use Rattle.net_file.proofs.FibreParts.{group_rest, group_reads}
 use Rattle.net_file.proofs.RankLaws.{come-far}
 use Rattle.net_file.proofs.GroupParts.{behind-group}
-use Rattle.net_file.proofs.LineGrowth.{last-word, network-grows, group-grows}
+use Rattle.net_file.proofs.LineGrowth.{last-word, network-grows, group-grows, network-in_range}
 use Rattle.net_file.proofs.BandLines.{band-later}
 use Rattle.net_file.proofs.StepParts.{Takes, Follows, Grows, nested, line-takes, checked}
 use Rattle.net_file.proofs.NetSteps.{named_at}
@@ -79,15 +79,7 @@ group_grown s sound may g named some free =
     ∙ ap (λ (v : List Name). net_words net ++ (codes "group" ∷ g.0 ∷ v) ∷ []) (members_named net g.1 ok.found)) in
     record {
       sound = record {
-        ranges = record {
-          version = r.version;
-          guard = r.guard;
-          k = r.k;
-          services = r.services;
-          journal = r.journal;
-          rows = r.rows;
-          graph = graph-with_group net made r.graph ok.few among ok.after ok.room;
-        };
+        ranges = network-in_range s.setup more r (graph-with_group net made r.graph ok.few among ok.after ok.room);
         band = band-later (rank s.last) 10 s.setup.version s.setup.band (omega arith) (omega arith) sound.band;
         no_version = λ l. absurd (omega arith);
         last = ap last_word lines ∙ last-word (lines_of s) (codes "group" ∷ group_rest g) model.Group refl;

@@ -1,5 +1,5 @@
 -- How the lines that have told a setup grow by one.
-use Rattle.std.proofs.Common.{◌≡◌, refl, sym, ◌∙◌, ap, ℕ, ◌-◌, ◌<◌, ◌≤◌, cond, List, [], ◌∷◌, ◌++◌, map, take, Some, append_assoc, arith}
+use Rattle.std.proofs.Common.{◌≡◌, refl, sym, ◌∙◌, ap, ℕ, ◌-◌, ◌<◌, ◌≤◌, cond, List, [], ◌∷◌, ◌++◌, map, take, Some, append_assoc, arith, true}
 use Rattle.std.specs.Prelude.{codes, option_and_then}
 use Rattle.std.proofs.lemmas.List.{append-nil, map-append, take_all}
 use Rattle.std.proofs.lemmas.Bool.{le-ltb}
@@ -7,8 +7,9 @@ use Rattle.eon_model.specs.Names.{Name}
 use Rattle.eon_model.specs.Network.{Network, Fibre, Group}
 use Rattle.eon_model.specs.Formats.{Format}
 use Rattle.eon_model.specs.NetworkFault.{Fields, Word, field_at, word_spelled, last_word, last_fields}
-use Rattle.net_file.specs.Steps.{SoFar, parts_of}
-use Rattle.net_file.specs.Drafts.{format_line_words, node_line_words, fibre_line_words, group_line_words, number_words, part_line_words, limit_words, net_words, head_at, end_words, lines_at}
+use Rattle.net_graph.specs.Graph.{is_graph}
+use Rattle.net_file.specs.Steps.{SoFar, parts_of, with_network}
+use Rattle.net_file.specs.Drafts.{format_line_words, node_line_words, fibre_line_words, group_line_words, number_words, part_line_words, limit_words, net_words, head_at, end_words, lines_at, InRange}
 
 -- ---- the last line
 
@@ -141,3 +142,17 @@ pub end-grows : (far : ℕ) (s : SoFar) → 6 ≤ far → far < 11 →
 unfolding lines_at
 end-grows far s least most =
     ap (λ (v : List Fields). v ++ (codes "end" ∷ []) ∷ []) (sym (later_lines far s least most))
+
+-- ---- the ranges
+
+-- with another network in range, all stays in range
+pub network-in_range : (s : SoFar) (net : Network) → InRange s → is_graph net ≡ true → InRange (with_network s net)
+network-in_range s net r graph = record {
+  version = r.version;
+  guard = r.guard;
+  k = r.k;
+  services = r.services;
+  journal = r.journal;
+  rows = r.rows;
+  graph = graph;
+}

@@ -24,7 +24,7 @@ use Rattle.net_file.proofs.FibreParts.{fibre_rest, fibre_reads}
 use Rattle.net_file.proofs.RankLaws.{come-far}
 use Rattle.net_file.proofs.BehindParts.{behind-fibre}
 use Rattle.net_file.proofs.GroupParts.{name_at-got}
-use Rattle.net_file.proofs.LineGrowth.{last-word, network-grows, fibre-grows}
+use Rattle.net_file.proofs.LineGrowth.{last-word, network-grows, fibre-grows, network-in_range}
 use Rattle.net_file.proofs.TableSteps.{formed}
 use Rattle.net_file.proofs.BandLines.{band-later}
 use Rattle.net_file.proofs.StepParts.{Takes, Follows, Grows, nested, line-takes, checked}
@@ -83,15 +83,7 @@ fibre_grown s sound may f named within free =
     (fibre-grows net made groups ∙ ap (λ (v : Fields). net_words net ++ v ∷ []) (fibre_spelled net f none)) in
     record {
       sound = record {
-        ranges = record {
-          version = r.version;
-          guard = r.guard;
-          k = r.k;
-          services = r.services;
-          journal = r.journal;
-          rows = r.rows;
-          graph = graph-with_fibre net made r.graph groups ok.few among ok.after;
-        };
+        ranges = network-in_range s.setup more r (graph-with_fibre net made r.graph groups ok.few among ok.after);
         band = band-later (rank s.last) 9 s.setup.version s.setup.band (omega arith) (omega arith) sound.band;
         no_version = λ l. absurd (omega arith);
         last = ap last_word lines ∙ last-word (lines_of s) (codes "fibre" ∷ fibre_rest f) model.Fibre refl;

@@ -27,7 +27,7 @@ use Rattle.net_file.proofs.FrontParts.{matches, form_of}
 use Rattle.net_file.proofs.NamedParts.{node_rest, node_reads, format_rest, format_reads}
 use Rattle.net_file.proofs.RankLaws.{come-far}
 use Rattle.net_file.proofs.BehindParts.{behind-format, behind-node}
-use Rattle.net_file.proofs.LineGrowth.{last-word, format-grows, network-grows, node-grows}
+use Rattle.net_file.proofs.LineGrowth.{last-word, format-grows, network-grows, node-grows, network-in_range}
 use Rattle.net_file.proofs.BandLines.{band-later}
 use Rattle.net_file.proofs.StepParts.{Takes, Follows, Grows, nested, line-takes, checked}
 
@@ -133,15 +133,7 @@ node_grown s sound may name named none =
     let long = length-append net.nodes (name ∷ []) in
     record {
       sound = record {
-        ranges = record {
-          version = r.version;
-          guard = r.guard;
-          k = r.k;
-          services = r.services;
-          journal = r.journal;
-          rows = r.rows;
-          graph = graph-with_node net name r.graph few named (not-false _ p.1);
-        };
+        ranges = network-in_range s.setup more r (graph-with_node net name r.graph few named (not-false _ p.1));
         band = band-later (rank s.last) 8 s.setup.version s.setup.band (omega arith) (omega arith) sound.band;
         no_version = λ l. absurd (omega arith);
         last = ap last_word lines ∙ last-word (lines_of s) (codes "node" ∷ name ∷ []) Node refl;

@@ -30,7 +30,7 @@ use Rattle.net_file.proofs.BandLines.{no-parts}
 use Rattle.net_file.proofs.LineGrowth.{head_lines, network-grows, end-grows}
 use Rattle.net_file.proofs.SetupParts.{Whole, whole-band, setup-whole}
 use Rattle.net_file.proofs.ReadLaws.{all_words}
-use Rattle.net_file.proofs.TextRuns.{Reached, Stopped, reads, last-fault}
+use Rattle.net_file.proofs.TextRuns.{Reached, Stopped, reads, last-fault, at_line}
 use Rattle.eon_model.proofs.WholeLines.{text_of, lines-text}
 use Rattle.eon_model.proofs.TextLengths.{texts-are-short}
 
@@ -328,9 +328,6 @@ lines_back bytes e =
     let ls = (whole_lines bytes).0 in
     sym (text-spaced (map fields_of ls)) ∙ ap (λ (v : List (List ℕ)). text_of (v, [])) (respaced ls)
     ∙ ap (λ (v : List ℕ). text_of (ls, v)) (sym e) ∙ lines-text bytes
-
-abbrev at_line : ℕ → model.Why → ℕ × model.Why
-at_line number why = (number, why)
 
 abbrev why_of : Option (ℕ × model.Why) → model.Why
 why_of None = model.Rest

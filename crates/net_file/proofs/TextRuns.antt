@@ -83,7 +83,7 @@ record Ended (b : Bool) (rest : List ℕ) : Type 0 where
   ended : b ≡ true
   nothing : rest ≡ []
 
-abbrev at_line : ℕ → model.Why → ℕ × model.Why
+abbrev pub at_line : ℕ → model.Why → ℕ × model.Why
 at_line number why = (number, why)
 
 ended_by : (b : Bool) (rest : List ℕ) (number : ℕ) →
