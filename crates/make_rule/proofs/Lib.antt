@@ -1,0 +1,3 @@
+pub mod MakeSteps
+pub mod RefitSteps
+pub mod WalkSteps
