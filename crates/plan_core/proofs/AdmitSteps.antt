@@ -5,7 +5,6 @@ use Rattle.std.specs.Option.{option_map, option_or}
 use Rattle.std.proofs.lemmas.Bool.{not-false, leb-false, eqb-true, false_from_ne_true}
 use Rattle.eon_model.specs.declared.Class.{Class}
 use Rattle.eon_model.specs.Grid.{Band}
-use Rattle.eon_model.specs.Names.{Name}
 use Rattle.eon_model.specs.Services.{Leg, Service, State, service_of}
 use Rattle.eon_model.specs.Legal.{Setup, Legal}
 use Rattle.eon_model.specs.NetworkText.{is_setup}

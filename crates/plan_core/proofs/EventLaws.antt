@@ -1,4 +1,4 @@
--- The event of a service that enters.
+-- The event of a service that enters, and of a leg that stands beside an old one.
 use Rattle.std.proofs.Common.{◌≡◌, refl, sym, ◌∙◌, ap, subst, ℕ, ◌<◌, true, ◌&&◌, List, [], ◌∷◌, length, Option, Some, None, nat_lt}
 use Rattle.std.specs.Prelude.{IfSome, nat_le}
 use Rattle.std.specs.Option.{option_map}
@@ -6,7 +6,8 @@ use Rattle.std.specs.List.{list_all, AllByRecursion}
 use Rattle.std.proofs.lemmas.Bool.{and_parts, leb-true, ltb-true}
 use Rattle.std.proofs.lemmas.List.Elements.{All-from_recursion}
 use Rattle.eon_model.specs.Grid.{is_slot}
-use Rattle.eon_model.specs.Names.{is_name}
+use Rattle.eon_model.specs.declared.Class.{Class}
+use Rattle.eon_model.specs.Names.{Name, is_name}
 use Rattle.eon_model.specs.Network.{Network}
 use Rattle.eon_model.specs.Services.{Path, Leg, Service}
 use Rattle.eon_model.specs.CommandText.{is_rate}
@@ -16,13 +17,10 @@ use Rattle.eon_model.specs.EventText.{is_path_text, has_paths, has_backup_for, i
 use Rattle.eon_model.specs.Step as step
 use Rattle.leg_state.specs.Parts.{AreFibreNumbers}
 use Rattle.plan_core.specs.declared.decision.Decision.{Decision}
-use Rattle.plan_core.specs.declared.decision.Decision.TheVariants.{Say, Change}
-use Rattle.plan_core.specs.declared.event.Event.TheVariants as event
-use Rattle.plan_core.specs.declared.event.EnterText.{EnterText}
 use Rattle.plan_core.specs.declared.proposal.Prepared.{Prepared}
 use Rattle.plan_core.specs.declared.proposal.Prepared.TheVariants as prepared
-use Rattle.plan_core.specs.Told.{enter_told, outcome_told}
-use Rattle.plan_core.specs.Waiting.{IsNumberedLeg, IsPrepared}
+use Rattle.plan_core.specs.Told.{outcome_told}
+use Rattle.plan_core.specs.Waiting.{IsNumberedLeg, needed_for, IsPrepared}
 
 -- ---- numbers of fibres
 
@@ -64,19 +62,27 @@ event-numbered s h =
     let a = and_parts (front && text) (has_backup_for s.class (option_map events.path_text_of s.leg.back)) h in
     leg-numbers s.leg s.leg.back refl (and_parts front text a.0).1
 
--- ---- what it needs
+pub make-numbered : (name : Name) (class : Class) (l : Leg) →
+    is_event (events.Event.Make name class (events.leg_text_of l)) ≡ true → IsNumberedLeg l
+make-numbered name class l h =
+    let text = is_leg_text (events.leg_text_of l) in
+    let a = and_parts (is_name name && text) (has_backup_for class (option_map events.path_text_of l.back)) h in
+    leg-numbers l l.back refl (and_parts (is_name name) text a.0).1
 
-same-enter : (a b : events.EnterText) (q r : Reply) →
-    step.Change (events.Event.Enter a) q ≡ step.Change (events.Event.Enter b) r → a ≡ b
-same-enter a b q r h = cc
+-- ---- what it needs
 
 -- the service that enters is what its event tells
 pub enter-IsPrepared : (net : Network) (s : Service) (d : Decision) (q : Prepared) (r : Reply) →
     events.service_told net (events.enter_text_of s) ≡ s →
     outcome_told d ≡ step.Change (events.Event.Enter (events.enter_text_of s)) r → q ≡ prepared.Service s →
     IsPrepared net d q
-enter-IsPrepared net s (Say x) q r whole h is = cc
-enter-IsPrepared net s (Change (event.Enter text) x) q r whole h is =
-    subst (λ (p : Prepared). IsPrepared net (Change (event.Enter text) x) p) (sym is)
-    (ap (events.service_told net) (same-enter (enter_told text) (events.enter_text_of s) _ r h) ∙ whole)
-enter-IsPrepared net s (Change (event.Leave name) x) q r whole h is = cc
+enter-IsPrepared net s d q r whole h is =
+    is ∙ sym (ap (needed_for net) h ∙ ap prepared.Service whole)
+
+-- and so is the leg that stands beside the old one
+pub make-IsPrepared : (net : Network) (name : Name) (class : Class) (l : Leg) (d : Decision) (q : Prepared) (r : Reply) →
+    events.leg_told net (events.leg_text_of l) ≡ l →
+    outcome_told d ≡ step.Change (events.Event.Make name class (events.leg_text_of l)) r → q ≡ prepared.Leg l →
+    IsPrepared net d q
+make-IsPrepared net name class l d q r whole h is =
+    is ∙ sym (ap (needed_for net) h ∙ ap prepared.Leg whole)

@@ -81,9 +81,6 @@ module _ (net : Network) (d : Demand) (w : PathWords) (back : Option BackWords) 
   of_work : (walks_between net d (asked net Work w) ≡ true) × (asked net Work w ≡ work)
   of_work = walked-by (walks_between net d (asked net Work w)) (asked net Work w) work (sym walk)
 
-  no_walk : AskedPath → Bool
-  no_walk = λ p. not (walks_between net d p)
-
   pub alone : back ≡ None →
       (None ≡ path_fault net d (paths_asked net w (told_backs back)))
       × (record { work = work; back = None } ≡ paths_asked net w (told_backs back))

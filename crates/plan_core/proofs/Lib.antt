@@ -1,4 +1,5 @@
 pub mod WaitingLaws
+pub mod MoveLaws
 pub mod EventLaws
 pub mod NameSteps
 pub mod FaultSteps

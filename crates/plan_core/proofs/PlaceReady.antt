@@ -1,5 +1,5 @@
 -- What `place` puts in is in range, and is what its event tells.
-use Rattle.std.proofs.Common.{◌≡◌, refl, sym, ap, subst, true, Option, Some, None}
+use Rattle.std.proofs.Common.{◌≡◌, refl, sym, subst, true, Option, Some, None}
 use Rattle.eon_model.specs.Services.{Service, State}
 use Rattle.eon_model.specs.Legal.{Setup, Legal}
 use Rattle.eon_model.specs.NetworkText.{is_setup}

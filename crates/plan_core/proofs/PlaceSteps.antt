@@ -11,7 +11,7 @@ use Rattle.eon_model.specs.Lists.{has_number}
 use Rattle.eon_model.specs.Names.{Name}
 use Rattle.eon_model.specs.Sets.{has_member}
 use Rattle.eon_model.specs.Network.{Network, Group, AreFibres, groups_with, risks_of_fibre}
-use Rattle.eon_model.specs.Services.{Path, Leg, Service, State, service_of, owned}
+use Rattle.eon_model.specs.Services.{Leg, Service, State, service_of, owned}
 use Rattle.eon_model.specs.Legal.{Setup}
 use Rattle.eon_model.specs.NetworkText.{is_setup}
 use Rattle.eon_model.specs.Commands.{Demand, PathWords}

@@ -1,8 +1,7 @@
 -- What a command that is built says can be told: of the state, or of the one that follows the change.
-use Rattle.std.proofs.Common.{◌≡◌, refl, sym, ◌∙◌, ap, subst, ℕ, Bool, true, false, cond, not, [], ◌∷◌, ◌++◌, length, map, find, Option, Some, None, nat_eq}
-use Rattle.std.specs.Prelude.{is_some, nat_le, IfSome}
+use Rattle.std.proofs.Common.{◌≡◌, refl, sym, ◌∙◌, ap, subst, ℕ, Bool, true, false, cond, [], ◌∷◌, ◌++◌, map, Option, Some, None}
+use Rattle.std.specs.Prelude.{is_some}
 use Rattle.std.specs.Option.{option_map, option_or, option_and_then}
-use Rattle.std.specs.List.{list_all}
 use Rattle.std.proofs.lemmas.List.Folds.{find-append}
 use Rattle.eon_model.specs.declared.Part.TheVariants.{Work, Backup}
 use Rattle.eon_model.specs.Names.{Name, same_name, least_name}
@@ -16,10 +15,10 @@ use Rattle.eon_model.specs.Commands.{Demand, PathWords, Command}
 use Rattle.eon_model.specs.Replies.{Reply}
 use Rattle.eon_model.specs.Events as events
 use Rattle.eon_model.specs.Listings.{map_text}
-use Rattle.eon_model.specs.Step.{Outcome, Say, Change, SayPlan, or_else, ◌when◌, or_blocked, AskedPath, asked, is_node, unknown_in, enters, for_service, for_number, node_numbered, routes_shown, place, admit, routes, outcome_of}
+use Rattle.eon_model.specs.Step.{Outcome, Say, Change, or_else, ◌when◌, or_blocked, AskedPath, asked, is_node, unknown_in, enters, for_service, for_number, node_numbered, place, admit, routes, outcome_of}
 use Rattle.eon_model.proofs.NameLaws.{names_equal}
 use Rattle.eon_model.proofs.ChangeLaws.{otherwise-Change, tried}
-use Rattle.reply_text.specs.Tellable.{can_show, can_tell}
+use Rattle.reply_text.specs.Tellable.{can_tell}
 use Rattle.plan_core.specs.declared.decision.Decision.{Decision}
 use Rattle.plan_core.specs.declared.decision.Decision.TheVariants as decision
 use Rattle.plan_core.specs.Built.{is_built}

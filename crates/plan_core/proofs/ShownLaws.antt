@@ -1,8 +1,8 @@
 -- The first routes within reach can be shown: their fibres are the network's, and a format reaches them.
-use Rattle.std.proofs.Common.{◌≡◌, refl, sym, ◌∙◌, ap, subst, inl, inr, ℕ, zero, suc, ◌≤◌, ◌<◌, max, Bool, true, false, not, cond, List, [], ◌∷◌, length, filter, find, fold, take, Some, None, arith}
+use Rattle.std.proofs.Common.{◌≡◌, refl, ◌∙◌, ap, subst, inl, inr, ℕ, zero, suc, ◌≤◌, ◌<◌, max, Bool, true, false, not, cond, List, [], ◌∷◌, length, filter, find, fold, take, Some, None, arith}
 use Rattle.std.specs.Prelude.{nat_le, nat_lt, is_some}
 use Rattle.std.specs.List.{list_all, list_any, AllByRecursion}
-use Rattle.std.proofs.lemmas.Bool.{cases_Bool, and_parts, and_from, both_ways, not-false, leb-true, leb-false, le-leb, lt-ltb}
+use Rattle.std.proofs.lemmas.Bool.{cases_Bool, and_parts, and_from, both_ways, leb-true, leb-false, le-leb, lt-ltb}
 use Rattle.eon_model.specs.Formats.{Format, reaching, format_for}
 use Rattle.eon_model.specs.Network.{Network}
 use Rattle.eon_model.specs.Route.{Route, route_of, walks, is_route}
@@ -22,8 +22,6 @@ use Rattle.eon_model.specs.Names.{Name}
 use Rattle.eon_model.specs.Sets.{NumberSet, has_member}
 use Rattle.eon_model.specs.Replies.{Reply}
 use Rattle.eon_model.specs.Step.{Say, or_else, is_node, node_numbered, routes_shown, routes}
-use Rattle.eon_model.proofs.FindLaws.{find-none}
-use Rattle.eon_model.proofs.FollowLaws.{number_in}
 use Rattle.eon_model.proofs.SetupFacts.{setup-facts}
 use Rattle.pair_list.proofs.BanLaws.{routes-alike, avoided-none}
 use Rattle.reply_text.specs.Tellable.{can_show}
@@ -186,20 +184,6 @@ unfolding or_else
 routes-unknown setup s t name e =
     ap (λ o. or_else (option_map Reply.Unknown o)
     (Say (Reply.Routes (routes_shown setup (node_numbered setup.network s) (node_numbered setup.network t))))) e
-
--- both ends are nodes
-pub record AreNodes (net : Network) (s t : Name) : Type 0 where
-  pub source : node_numbered net s < length net.nodes
-  pub target : node_numbered net t < length net.nodes
-
-pub ends-known : (net : Network) (s t : Name) → None ≡ find (λ n. not (is_node net n)) (s ∷ t ∷ []) →
-    AreNodes net s t
-ends-known net s t e =
-    let all = find-none (λ n. not (is_node net n)) (s ∷ t ∷ []) (sym e) in
-    record {
-      source = number_in net.nodes s (not-false _ all.0);
-      target = number_in net.nodes t (not-false _ all.1.0);
-    }
 
 pub routes-known : (setup : Setup) (s t : Name) (rs : List Route) →
     None ≡ find (λ n. not (is_node setup.network n)) (s ∷ t ∷ []) →

@@ -1,73 +1,38 @@
 -- What holds of decisions and of the change that waits.
-use Rattle.std.proofs.Common.{◌≡◌, refl, sym, ◌∙◌, ap, subst, ℕ, ◌≤◌, ◌<◌, arith, true, ◌&&◌, not, [], ◌∷◌, ◌++◌, length, Option, Some, None, nat_lt}
-use Rattle.std.specs.Prelude.{Result, Ok, Err, IfOk, IfSome, is_some}
+use Rattle.std.proofs.Common.{◌≡◌, refl, sym, subst, ℕ, ◌≤◌, arith, true, Option, Some, None}
+use Rattle.std.specs.Prelude.{Result, Ok, Err, IfOk, IfSome}
 use Rattle.std.specs.declared.alloc.AllocError.{AllocError}
-use Rattle.std.proofs.lemmas.Bool.{and_parts, not-true}
+use Rattle.std.proofs.lemmas.Bool.{and_parts}
 use Rattle.eon_model.specs.Network.{Network}
-use Rattle.eon_model.specs.Names.{Name}
-use Rattle.eon_model.specs.Services.{Service, State, service_of}
-use Rattle.eon_model.specs.Legal.{Setup, Legal, fits, is_legal}
+use Rattle.eon_model.specs.Services.{State}
+use Rattle.eon_model.specs.Legal.{Setup, Legal, is_legal}
 use Rattle.eon_model.specs.NetworkText.{is_setup}
 use Rattle.eon_model.specs.Commands.{Command}
 use Rattle.eon_model.specs.CommandText.{is_command}
-use Rattle.eon_model.specs.Events.{apply, service_told}
-use Rattle.eon_model.specs.Replay.{is_asked, may_enter, can_follow}
+use Rattle.eon_model.specs.Events.{apply}
+use Rattle.eon_model.specs.Replay.{is_asked, can_follow}
 use Rattle.eon_model.specs.Step as step
 use Rattle.eon_model.specs.Answers.{Gives}
-use Rattle.eon_model.proofs.ClashLaws.{no-some}
 use Rattle.eon_model.specs.EventText.{is_event}
 use Rattle.eon_model.proofs.EventRangeLaws.{outcome-is_event}
 use Rattle.eon_model.proofs.FollowLaws.{outcome-can_follow}
 use Rattle.plan_core.specs.declared.decision.Decision.{Decision}
 use Rattle.plan_core.specs.declared.decision.Decision.TheVariants.{Say, Change}
-use Rattle.plan_core.specs.declared.event.Event.{Event}
-use Rattle.plan_core.specs.declared.event.Event.TheVariants as event
-use Rattle.plan_core.specs.declared.event.EnterText.{EnterText}
+use Rattle.journal_record.specs.declared.event.Event.{Event}
+use Rattle.journal_record.specs.Told.{event_told}
 use Rattle.plan_core.specs.declared.proposal.Prepared.{Prepared}
 use Rattle.plan_core.specs.declared.proposal.Prepared.TheVariants as prepared
 use Rattle.plan_core.specs.declared.proposal.Proposal.{Proposal}
-use Rattle.plan_core.specs.Told.{enter_told, event_told, event_of, outcome_told, answer_of}
-use Rattle.plan_core.specs.Waiting.{IsFor, IsPrepared, HasRoom, list_after, CanBeMade, CanBeHeld}
+use Rattle.plan_core.specs.Told.{event_of, outcome_told, answer_of}
+use Rattle.plan_core.specs.Waiting.{needed, IsPrepared, HasRoom, CanBeMade, CanBeHeld}
 use Rattle.plan_core.specs.Seen.{IsKept}
 
 -- ---- a change that can be made
 
--- what enters has a new name
-pub enter-fresh : (setup : Setup) (state : State) (spare : ℕ) (text : EnterText) (s : Service) →
-    CanBeMade setup state spare (prepared.Service s) (event.Enter text) → service_of state s.name ≡ None
-enter-fresh setup state spare text s can =
-    let t = service_told setup.network (enter_told text) in
-    let fresh = not (is_some (service_of state t.name)) in
-    let few = nat_lt (length state) setup.services in
-    let src = nat_lt t.src (length setup.network.nodes) in
-    let dst = nat_lt t.dst (length setup.network.nodes) in
-    let asked = and_parts (may_enter setup state t) (is_legal setup (state ++ t ∷ [])) can.follows in
-    let a = and_parts (fresh && few && src && dst) (fits setup t t.leg) asked.0 in
-    let b = and_parts (fresh && few && src) dst a.0 in
-    let c = and_parts (fresh && few) src b.0 in
-    let d = and_parts fresh few c.0 in
-    subst (λ (x : Service). service_of state x.name ≡ None) can.is_for
-    (no-some (service_of state t.name) (not-true (is_some (service_of state t.name)) d.0))
-
--- what leaves is there
-pub leave-there : (setup : Setup) (state : State) (spare : ℕ) (q : Prepared) (name : Name) →
-    CanBeMade setup state spare q (event.Leave name) → is_some (service_of state name) ≡ true
-leave-there setup state spare q name can =
-    (and_parts (is_some (service_of state name)) (is_legal setup (apply setup.network state (event_told (event.Leave name))))
-    can.follows).0
-
--- the list after it is the state after its event
-pub list-applied : (net : Network) (state : State) (e : Event) (q : Prepared) → IsFor net e q →
-    list_after state e q ≡ apply net state (event_told e)
-list-applied net state (event.Enter text) (prepared.Service s) h = ap (λ x. state ++ x ∷ []) (sym h)
-list-applied net state (event.Enter text) prepared.Nothing h = absurd h
-list-applied net state (event.Leave name) q h = refl
-
--- and legal
-pub list-Legal : (setup : Setup) (state : State) (spare : ℕ) (e : Event) (q : Prepared) →
-    CanBeMade setup state spare q e → Legal setup (list_after state e q)
-list-Legal setup state spare e q can =
-    subst (λ (l : State). Legal setup l) (sym (list-applied setup.network state e q can.is_for))
+-- the state after it is legal
+after-Legal : (setup : Setup) (state : State) (spare : ℕ) (q : Prepared) (e : Event) →
+    CanBeMade setup state spare q e → Legal setup (apply setup.network state (event_told e))
+after-Legal setup state spare q e can =
     (and_parts (is_asked setup state (event_told e)) (is_legal setup (apply setup.network state (event_told e)))
     can.follows).1
 
@@ -77,12 +42,13 @@ list-Legal setup state spare e q can =
 room-more : (spare room : ℕ) (q : Prepared) → spare ≤ room → HasRoom spare q → HasRoom room q
 room-more spare room prepared.Nothing low h = tt
 room-more spare room (prepared.Service s) low h = omega arith
+room-more spare room (prepared.Leg l) low h = tt
 
 waits-more : (setup : Setup) (state : State) (spare room : ℕ) (q : Prepared) (w : Option Event) → spare ≤ room →
     IfSome w (CanBeMade setup state spare q) → IfSome w (CanBeMade setup state room q)
 waits-more setup state spare room q None low h = tt
 waits-more setup state spare room q (Some e) low h =
-    record { follows = h.follows; is_for = h.is_for; room = room-more spare room q low h.room }
+    record { follows = h.follows; is_needed = h.is_needed; room = room-more spare room q low h.room }
 
 pub still-IsKept : (setup : Setup) (before after : State) (spare room : ℕ) (q : Prepared) (w : Option Event) →
     IsKept setup before spare q w → after ≡ before → spare ≤ room → IsKept setup after room q w
@@ -97,7 +63,7 @@ waits-held : (setup : Setup) (state : State) (room : ℕ) (d : Decision) (q : Pr
     HasRoom room q → IfSome (event_of d) (CanBeMade setup state room q)
 waits-held setup state room (Say r) q follows for enough = tt
 waits-held setup state room (Change e r) q follows for enough =
-    record { follows = follows; is_for = for; room = enough }
+    record { follows = follows; is_needed = for; room = enough }
 
 -- the machine is kept where the list is as before and there is room for what waits now
 pub held-IsKept : (setup : Setup) (before after : State) (spare room : ℕ) (q : Prepared) (w waiting : Option Event)
@@ -109,18 +75,33 @@ held-IsKept setup before after spare room q w waiting p kept same can enough is 
   waits = rw (same, is) (waits-held setup before room p.decision p.prepared can.follows can.is_prepared enough);
 }
 
+-- what waits can be made
+pub waiting-IsKept : (setup : Setup) (state : State) (spare : ℕ) (q p : Prepared) (w : Option Event) (e : Event) →
+    IsKept setup state spare q w → w ≡ Some e → p ≡ q → IsKept setup state spare p (Some e)
+waiting-IsKept setup state spare q p w e kept is same = record {
+  in_range = kept.in_range;
+  legal = kept.legal;
+  waits = rw same (subst (λ (o : Option Event). IfSome o (CanBeMade setup state spare q)) is kept.waits);
+}
+
+-- the list that it is made to, on each network on which it needs no more, is the state after its event
+pub made-applied : (setup : Setup) (before after : State) (spare : ℕ) (q : Prepared) (e : Event) →
+    IsKept setup before spare q (Some e) →
+    ((net : Network) → q ≡ needed net (event_told e) → after ≡ apply net before (event_told e)) →
+    after ≡ apply setup.network before (event_told e)
+made-applied setup before after spare q e kept made = made setup.network kept.waits.is_needed
+
 -- once it was made, none waits
-pub applied-IsKept : (setup : Setup) (before after : State) (spare room : ℕ) (q p now : Prepared)
-    (w waiting : Option Event) (e : Event) → IsKept setup before spare q w → w ≡ Some e → p ≡ q →
-    after ≡ list_after before e p → waiting ≡ None → IsKept setup after room now waiting
-applied-IsKept setup before after spare room q p now w waiting e kept is same made none =
-    let can = subst (λ (o : Option Event). IfSome o (CanBeMade setup before spare q)) is kept.waits in
-    record {
-      in_range = kept.in_range;
-      legal = subst (λ (l : State). Legal setup l) (sym (made ∙ ap (list_after before e) same))
-          (list-Legal setup before spare e q can);
-      waits = rw none tt;
-    }
+pub applied-IsKept : (setup : Setup) (before after : State) (spare room : ℕ) (q now : Prepared)
+    (waiting : Option Event) (e : Event) → IsKept setup before spare q (Some e) →
+    ((net : Network) → q ≡ needed net (event_told e) → after ≡ apply net before (event_told e)) → waiting ≡ None →
+    IsKept setup after room now waiting
+applied-IsKept setup before after spare room q now waiting e kept made none = record {
+  in_range = kept.in_range;
+  legal = subst (λ (l : State). Legal setup l) (sym (made-applied setup before after spare q e kept made))
+      (after-Legal setup before spare q e kept.waits);
+  waits = rw none tt;
+}
 
 -- ---- what is decided
 

@@ -1,5 +1,5 @@
 -- The parts of the answer to `place`.
-use Rattle.std.specs.Prelude.{◌≡◌, ℕ, ℤ, nat_le, ◌&&◌, not, List, ◌∷◌, ◌++◌, [], length, map, filter, Option, Some, None, is_some, Result, Ok, Err, if◌then◌else◌}
+use Rattle.std.specs.Prelude.{ℕ, ℤ, nat_le, ◌&&◌, not, List, ◌∷◌, ◌++◌, [], length, map, filter, Option, Some, None, is_some, Result, Ok, Err, if◌then◌else◌}
 use Rattle.std.specs.Option.{option_map, option_or, option_to_list}
 use Rattle.std.specs.List.{range_with_len}
 use Rattle.eon_model.specs.declared.Part.TheVariants.{Work, Backup}

@@ -6,8 +6,8 @@ use Rattle.eon_model.specs.Legal.{Setup, Legal}
 use Rattle.eon_model.specs.NetworkText.{is_setup}
 use Rattle.eon_model.specs.Codes.{state_code}
 use Rattle.eon_model.specs.SetupCodes.{setup_code}
-use Rattle.plan_core.specs.contracts.event.Event as event
-use Rattle.plan_core.specs.declared.event.Event.{Event}
+use Rattle.journal_record.specs.contracts.event.Event as event
+use Rattle.journal_record.specs.declared.event.Event.{Event}
 use Rattle.plan_core.specs.declared.proposal.Prepared.{Prepared}
 use Rattle.plan_core.specs.Waiting.{CanBeMade}
 

@@ -1,41 +1,15 @@
--- The events and decisions of the code as those of the planner's definitions.
+-- The decisions of the code as those of the planner's definitions.
 use Rattle.std.specs.Prelude.{IsTrue, Option, Some, None}
-use Rattle.std.specs.Option.{option_map}
 use Rattle.eon_model.specs.Services.{State}
 use Rattle.eon_model.specs.Legal.{Setup}
-use Rattle.eon_model.specs.Events as told
 use Rattle.eon_model.specs.Step as step
 use Rattle.eon_model.specs.Answers.{Answer, said, state_after}
-use Rattle.plan_core.specs.declared.event.PathText.{PathText}
-use Rattle.plan_core.specs.declared.event.LegText.{LegText}
-use Rattle.plan_core.specs.declared.event.EnterText.{EnterText}
-use Rattle.plan_core.specs.declared.event.Event.{Event}
-use Rattle.plan_core.specs.declared.event.Event.TheVariants as event
+use Rattle.journal_record.specs.declared.event.Event.{Event}
+use Rattle.journal_record.specs.Told.{event_told}
 use Rattle.plan_core.specs.declared.decision.Decision.{Decision}
 use Rattle.plan_core.specs.declared.decision.Decision.TheVariants.{Say, Change}
 use Rattle.reply_text.specs.Replied.{reply_told}
 use Rattle.reply_text.specs.Tellable.{can_tell}
-
-abbrev pub path_told : PathText → told.PathText
-path_told p = record { fibres = p.fibres; slot = p.slot }
-
-abbrev pub leg_told : LegText → told.LegText
-leg_told l = record { work = path_told l.work; back = option_map path_told l.back }
-
-abbrev pub enter_told : EnterText → told.EnterText
-enter_told s = record {
-  name = s.name;
-  src = s.src;
-  dst = s.dst;
-  rate = s.rate;
-  class = s.class;
-  leg = leg_told s.leg;
-}
-
--- the change that it is
-abbrev pub event_told : Event → told.Event
-event_told (event.Enter service) = told.Event.Enter (enter_told service)
-event_told (event.Leave name) = told.Event.Leave name
 
 -- what a command comes to, in the planner's definitions
 abbrev pub outcome_told : Decision → step.Outcome

@@ -2,8 +2,8 @@
 ghost use Rattle.std.specs.Prelude.{◌≡◌, Option, None};
 ghost use Rattle.std.specs.Borrow.{ftrue};
 ghost use Rattle.std.specs.Coded.{coded_option};
-ghost use Rattle.plan_core.specs.contracts.event.Event as event_contracts;
-ghost use Rattle.plan_core.specs.declared.event.Event.{Event};
+ghost use Rattle.journal_record.specs.contracts.event.Event as event_contracts;
+ghost use Rattle.journal_record.specs.declared.event.Event.{Event};
 ghost use Rattle.plan_core.specs.Told.{event_of};
 
 use crate::decision::Decision;

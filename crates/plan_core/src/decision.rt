@@ -1,5 +1,5 @@
 //! What a command comes to.
-use crate::event::Event;
+use journal_record::Event;
 use reply_text::Reply;
 
 /// What a command comes to.

@@ -1,5 +1,6 @@
 //! What each command comes to.
 ghost use Rattle.std.specs.Prelude.{◌≡◌, false, IsTrue, IsOk, IfOk};
+ghost use Rattle.eon_model.specs.Network.{Network};
 ghost use Rattle.eon_model.specs.Legal.{Legal};
 ghost use Rattle.eon_model.specs.NetworkText.{is_setup};
 ghost use Rattle.eon_model.specs.CommandText.{is_command};
@@ -16,11 +17,12 @@ use crate::admit::admit;
 use crate::demand::Demand;
 use crate::listings::{map, report, stats};
 use crate::place::place;
-use crate::proposal::{Prepared, Proposal, leave, say};
+use crate::proposal::{Prepared, Proposal, change, say};
 use crate::routes::routes_between;
 use command_text::Command;
 use eon_base::name::Name;
 use eon_model::Class;
+use journal_record::Event;
 use leg_state::Services;
 use net_setup::NetSetup;
 use reply_text::Reply;
@@ -29,10 +31,14 @@ use std::alloc::{AllocError, Global};
 // What `release` comes to.
 fn release(services: &Services, name: &Name) -> Proposal
     ensures is { outcome_told result.decision ≡ step.release services.now.list name.now }
-    ensures prepared { result.prepared ≡ Prepared.Nothing }
+    ensures nothing { result.prepared ≡ Prepared.Nothing }
+    ensures prepared { (net : Network) → IsPrepared net result.decision result.prepared }
 {
     match services.find(name) {
-        Some(_) => leave(*name, Reply::Released { name: *name }),
+        Some(_) => change(
+            Event::Leave { name: *name },
+            Reply::Released { name: *name },
+        ),
         None => say(Reply::Unknown { name: *name }),
     }
 }

@@ -1,47 +1,11 @@
-//! Changes of the list of services, as they can be kept: nodes and fibres by number, no length and no risk.
+//! Services and legs as events tell them.
 ghost use Rattle.std.specs.Prelude.{◌≡◌};
 ghost use Rattle.eon_model.specs.Events as events;
-ghost use Rattle.plan_core.specs.Told.{path_told, leg_told, enter_told};
+ghost use Rattle.journal_record.specs.Told.{path_told, leg_told, enter_told};
 ghost use Rattle.plan_core.specs.Waiting.{IsNumbered, IsNumberedLeg};
 
-use eon_base::name::Name;
-use eon_model::Class;
-use flex_grid::slot::Slot;
+use journal_record::{EnterText, LegText, PathText};
 use leg_state::{FibreNumbers, Leg, Path, Service};
-
-/// A path: its fibres by number, and its slot.
-#[derive(Drop)]
-pub struct PathText {
-    pub fibres: FibreNumbers,
-    pub slot: Slot,
-}
-
-/// A leg that stands still: a working path, and a backup path for a protected service.
-#[derive(Drop)]
-pub struct LegText {
-    pub work: PathText,
-    pub back: Option<PathText>,
-}
-
-/// A service of one leg, between two nodes by number, at a rate in Gbit/s.
-#[derive(Drop)]
-pub struct EnterText {
-    pub name: Name,
-    pub src: u8,
-    pub dst: u8,
-    pub rate: u32,
-    pub class: Class,
-    pub leg: LegText,
-}
-
-/// A change of the list of services.
-#[derive(Drop)]
-pub enum Event {
-    /// A service goes to the end of the list.
-    Enter { service: EnterText },
-    /// The service of this name goes.
-    Leave { name: Name },
-}
 
 // The path by the numbers of its fibres.
 fn path_text(path: &Path) -> PathText
@@ -54,8 +18,8 @@ fn path_text(path: &Path) -> PathText
     }
 }
 
-// The leg, which stands still, by the numbers of its fibres.
-fn leg_text(leg: &Leg) -> LegText
+/// The leg, which stands still, by the numbers of its fibres.
+pub fn leg_text(leg: &Leg) -> LegText
     requires { IsNumberedLeg leg.now }
     ensures { leg_told result ≡ events.leg_text_of leg.now }
 {

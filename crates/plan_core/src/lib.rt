@@ -9,7 +9,7 @@ pub mod built;
 pub mod decision;
 mod demand;
 mod dispatch;
-pub mod event;
+mod event;
 mod listings;
 mod live;
 pub mod machine;
@@ -18,10 +18,8 @@ mod place;
 mod proposal;
 mod refusal;
 mod routes;
-#[cfg(test)]
-mod tests;
 
 pub use built::is_built;
 pub use decision::Decision;
-pub use event::{EnterText, Event, LegText, PathText};
+pub use journal_record::Event;
 pub use machine::Core;

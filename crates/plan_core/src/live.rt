@@ -1,10 +1,14 @@
 //! The live services, and the one way in which they change.
-ghost use Rattle.std.specs.Prelude.{◌≡◌, ◌≤◌, [], IsOk, OnOk};
+ghost use Rattle.std.specs.Prelude.{◌≡◌, ◌≤◌, [], Some, IsOk, OnOk};
 ghost use Rattle.eon_model.specs.Legal.{Setup};
-ghost use Rattle.plan_core.specs.Waiting.{HasRoom, CanBeMade, list_after};
+ghost use Rattle.eon_model.specs.Network.{Network};
+ghost use Rattle.eon_model.specs.Events.{apply};
+ghost use Rattle.journal_record.specs.Told.{event_told};
+ghost use Rattle.plan_core.specs.Seen.{IsKept};
+ghost use Rattle.plan_core.specs.Waiting.{HasRoom, needed};
 
-use crate::event::Event;
 use crate::proposal::Prepared;
+use journal_record::Event;
 use leg_state::{Service, Services};
 use std::alloc::{AllocError, Global};
 
@@ -36,21 +40,30 @@ impl Live {
     {
         match prepared {
             Prepared::Service(_) => self.services.reserve(),
-            Prepared::Nothing => Ok(()),
+            Prepared::Leg(_) | Prepared::Nothing => Ok(()),
         }
     }
 
     /// Makes the change, for which all that it needs is there. No memory is taken.
     pub fn change(&mut self, event: Event, prepared: Prepared)
-        requires { (setup : Setup) × CanBeMade setup self.old.services.list self.old.services.spare prepared event }
-        ensures { self.new.services.list ≡ list_after self.old.services.list event prepared }
+        requires { (setup : Setup) × IsKept setup self.old.services.list self.old.services.spare prepared (Some event) }
+        ensures { (net : Network) → prepared ≡ needed net (event_told event) → self.new.services.list ≡ apply net self.old.services.list (event_told event) }
     {
         match event {
             Event::Enter { .. } => match prepared {
                 Prepared::Service(service) => self.services.enter(service),
-                Prepared::Nothing => unreachable!(),
+                _ => unreachable!(),
             },
             Event::Leave { name } => let_go(self.services.leave(&name)),
+            Event::Push { name, to } => self.services.set_to(&name, to),
+            Event::Finish { name } => self.services.end_move(&name),
+            Event::Back { name } => self.services.undo_move(&name),
+            Event::Make { name, .. } => match prepared {
+                Prepared::Leg(leg) => self.services.add_leg(&name, leg),
+                _ => unreachable!(),
+            },
+            Event::Refit { name, n } => self.services.set_back(&name, n),
+            Event::Bind { .. } => {}
         }
     }
 }

@@ -7,9 +7,11 @@ ghost use Rattle.reply_text.specs.Replied.{reply_told};
 ghost use Rattle.plan_core.specs.Told.{outcome_told};
 
 use crate::decision::Decision;
-use crate::event::{Event, enter_text};
+use crate::event::{enter_text, leg_text};
 use eon_base::name::Name;
-use leg_state::Service;
+use eon_model::Class;
+use journal_record::Event;
+use leg_state::{Leg, Service};
 use reply_text::Reply;
 
 /// What a change needs that only memory could give.
@@ -18,6 +20,8 @@ pub enum Prepared {
     Nothing,
     /// The service that enters.
     Service(Service),
+    /// The leg that stands beside the old one.
+    Leg(Leg),
 }
 
 /// A decision, and what its change needs.
@@ -55,16 +59,32 @@ pub fn enter(service: Service, reply: Reply) -> Proposal
     }
 }
 
-/// The service of this name leaves.
-pub fn leave(name: Name, reply: Reply) -> Proposal
-    ensures decision { result.decision ≡ Decision.Change (Event.Leave name) reply }
-    ensures prepared { result.prepared ≡ Prepared.Nothing }
+/// The leg stands beside the old one of the service of this name, which is of this class.
+pub fn make(name: Name, class: Class, leg: Leg, reply: Reply) -> Proposal
+    requires { IsTrue (is_event (events.Event.Make name class (events.leg_text_of leg))) }
+    ensures decision { outcome_told result.decision ≡ step.Change (events.Event.Make name class (events.leg_text_of leg)) (reply_told reply) }
+    ensures prepared { result.prepared ≡ Prepared.Leg leg }
 {
     Proposal {
         decision: Decision::Change {
-            event: Event::Leave { name },
+            event: Event::Make {
+                name,
+                class,
+                leg: leg_text(&leg),
+            },
             reply,
         },
+        prepared: Prepared::Leg(leg),
+    }
+}
+
+/// A change that needs nothing.
+pub fn change(event: Event, reply: Reply) -> Proposal
+    ensures decision { result.decision ≡ Decision.Change event reply }
+    ensures prepared { result.prepared ≡ Prepared.Nothing }
+{
+    Proposal {
+        decision: Decision::Change { event, reply },
         prepared: Prepared::Nothing,
     }
 }

@@ -21,11 +21,12 @@ use Rattle.reply_text.specs.Replied.{reply_told}
 use Rattle.reply_text.specs.Tellable.{can_tell}
 use Rattle.reply_text.specs.declared.reply.Reply.{Reply}
 use Rattle.reply_text.specs.declared.reply.Reply.TheVariants as reply
-use Rattle.plan_core.specs.declared.event.Event.{Event}
+use Rattle.journal_record.specs.declared.event.Event.{Event}
+use Rattle.journal_record.specs.Told.{event_told}
 use Rattle.plan_core.specs.declared.decision.Decision.{Decision}
 use Rattle.plan_core.specs.declared.decision.Decision.TheVariants.{Say, Change}
 use Rattle.plan_core.specs.Built.{is_built}
-use Rattle.plan_core.specs.Told.{answer_of, event_told, CanBeTold}
+use Rattle.plan_core.specs.Told.{answer_of, CanBeTold}
 use Rattle.plan_serve.specs.declared.answering.Flow.{Flow}
 use Rattle.plan_serve.specs.Answering.{Decides, DecidesCommand, GoesOn, AnswersLine}
 
@@ -135,11 +136,6 @@ module _ (setup here : Setup) (old new there : State) (line : List ℕ) (r : Rep
       ap (λ (v : Setup). reply_text v there (reply_told r)) same
       ∙ ap (λ (v : State). reply_text setup v (reply_told r)) (stays ∙ h.state)
       ∙ ap (λ (v : model.Reply). reply_text setup (state_after setup.network old h.answer.event) v) (sym h.is)
-
-  pub reply_can_be_told : IsTrue (can_tell here there (reply_told r))
-  reply_can_be_told =
-      subst (λ (v : Setup). IsTrue (can_tell v there (reply_told r))) (sym same)
-      (subst (λ (v : State). IsTrue (can_tell setup v (reply_told r))) (sym stays) h.can_tell)
 
   pub answers_whole : {E : Type 0} (flow : Flow) → Appends before now (reply_text here there (reply_told r)) →
       GoesOn flow line → AnswersLine {E = E} setup old new line before now (Ok flow)

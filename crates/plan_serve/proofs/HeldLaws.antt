@@ -157,32 +157,3 @@ given_all start old new none held text same empty left given =
     (subst (λ (v : Option (List ℕ)). Appends (given_since v old []) (given_since v new []) text) same
     (subst (λ (v : List ℕ). Appends (given_since start old []) (given_since start new v) text) left
     (subst (λ (v : List ℕ). Appends (given_since start old v) (given_since start new held) text) empty given)))
-
--- ---- the standing of the sink below
-
-behind : List ℕ → List ℕ
-behind [] = []
-behind (r ∷ rs) = rs
-
-first : List ℕ → ℕ
-first [] = 0
-first (r ∷ rs) = r
-
-under : Standing → Standing
-under s = record s { through = behind s.through }
-
-pub standing_below : (r q : ℕ) (a b : Standing) → standing_over r a ≡ standing_over q b → a ≡ b
-unfolding under behind
-standing_below r q a b e = ap under e
-
-pub reference_below : (r q : ℕ) (a b : Standing) → standing_over r a ≡ standing_over q b → r ≡ q
-unfolding first
-reference_below r q a b e = ap (λ (s : Standing). first s.through) e
-
-pub fault_below : (r q : ℕ) (a b : Standing) → standing_over r a ≡ with_fault (standing_over q b) → a ≡ with_fault b
-unfolding under behind
-fault_below r q a b e = ap under e
-
-pub fault_reference : (r q : ℕ) (a b : Standing) → standing_over r a ≡ with_fault (standing_over q b) → r ≡ q
-unfolding first
-fault_reference r q a b e = ap (λ (s : Standing). first s.through) e

@@ -63,9 +63,6 @@ part_given T E line before now old new e part stands = record {
 
 -- ---- the network
 
-not_memory : (f : NetFault) → refusal.Fault f ≡ refusal.Memory → ⊥
-not_memory f e = cc
-
 some_is : (x y : List ℕ) → ◌≡◌ {A = Option (List ℕ)} (Some x) (Some y) → x ≡ y
 some_is x y e = cc
 
@@ -82,19 +79,6 @@ long_file (Some files) name h = found (get files name) refl h
         IsLongFile (Some files) name
     found None e k = absurd k
     found (Some bytes) e k = (bytes, e, k)
-
--- what was read is no text, and this is its first fault
-pub refused_file : (files : Option NamedFiles) (name bytes : List ℕ) (e : NetRefusal) (f : NetFault) →
-    e ≡ refusal.Fault f → IsFile files name bytes → length bytes ≤ network_limit → IsRefusalOf bytes e →
-    (e ≡ refusal.Memory) ⊎ ((s : Setup) → IsNetworkTextOf bytes s → ⊥) →
-    IsRefusedFile files name f.line (why_told f.why)
-refused_file files name bytes e f is told short fault none = record {
-  bytes = bytes;
-  told = told;
-  short = short;
-  fault = subst (IsRefusalOf bytes) is fault;
-  no_text = elim none [ inl memory ↦ absurd (not_memory f (sym is ∙ memory)) | inr no_text ↦ no_text ];
-}
 
 -- ---- the stream, as its file has it
 
@@ -267,94 +251,6 @@ pub dry_asks : (w : words.Words) (net commands : _) (task : Option Task) (before
 dry_asks w net commands task before now status asked is h =
     subst (λ (v : Option Task). Ends v before now status) (sym (asked ∙ ap (λ v. Some (task_asked v)) is)) h
 
-pub later_ends : (w : words.Words) (before now : Outside) (task : Option Task) (status : Status) →
-    task ≡ Some (task_asked w) → ((net commands : _) → w ≡ word.Dry net commands → ⊥) → status ≡ Later →
-    SaysOnly (own_line Later) before now → Ends task before now status
-later_ends w before now task status is other later h =
-    subst (λ (v : Option Task). Ends v before now status) (sym is)
-    (subst (λ (v : Status). Ends (Some (task_asked w)) before now v) (sym later) (by_mode w other))
-  where
-    by_mode : (w : words.Words) → ((net commands : _) → w ≡ word.Dry net commands → ⊥) →
-        Ends (Some (task_asked w)) before now Later
-    by_mode (word.Dry net commands) other = absurd (other net commands refl)
-    by_mode (word.Init net journal) other = h
-    by_mode (word.Serve net journal commands) other = h
-    by_mode (word.Replay net journal) other = h
-    by_mode (word.Drive net seed count) other = h
-    by_mode (word.Migrate net next journal) other = h
-    by_mode (word.Live net journal commands) other = h
-    by_mode (word.Room net journal commands) other = h
-
-pub words_ends : (before now : Outside) (task : Option Task) (status : Status) → task ≡ None → status ≡ Words →
-    SaysOnly (own_line Words) before now → Ends task before now status
-words_ends before now task status none words h =
-    subst (λ (v : Option Task). Ends v before now status) (sym none)
-    (subst (λ (v : Status). Ends None before now v) (sym words) h)
-
-pub memory_ends : (task : Option Task) (before now : Outside) → DoesNothing before now → Ends task before now Memory
-memory_ends None before now h = h
-memory_ends (Some (Dry net commands)) before now h = (inl h.0.0, (h.0.2, h.1), h.2)
-memory_ends (Some (Init net journal)) before now h = h
-memory_ends (Some (Serve net journal commands)) before now h = h
-memory_ends (Some (Replay net journal)) before now h = h
-memory_ends (Some (Drive net seed count)) before now h = h
-memory_ends (Some (Migrate net next journal)) before now h = h
-memory_ends (Some (Live net journal commands)) before now h = h
-memory_ends (Some (Room net journal commands)) before now h = h
-
--- ---- what the status says of the words
-
-dry_asked : (net commands : List ℕ) (before now : Outside) (status : Status) → DryEnds net commands before now status →
-    (status ≢ Words) × (status ≢ Later)
-dry_asked net commands before now Words h = absurd h
-dry_asked net commands before now Later h = absurd h
-dry_asked net commands before now Done h = (λ e. cc, λ e. cc)
-dry_asked net commands before now NetLong h = (λ e. cc, λ e. cc)
-dry_asked net commands before now (NetRefused number why) h = (λ e. cc, λ e. cc)
-dry_asked net commands before now ReadFault h = (λ e. cc, λ e. cc)
-dry_asked net commands before now Memory h = (λ e. cc, λ e. cc)
-dry_asked net commands before now WriteFault h = (λ e. cc, λ e. cc)
-dry_asked net commands before now InputLong h = (λ e. cc, λ e. cc)
-
-abbrev NotBuilt : Outside → Outside → Status → Type 0
-NotBuilt before now status = Ends (Some (Init [] [])) before now status
-
-later_asked : (before now : Outside) (status : Status) → NotBuilt before now status →
-    (status ≡ Later) ⊎ (status ≡ Memory)
-later_asked before now Later h = inl refl
-later_asked before now Memory h = inr refl
-later_asked before now Words h = absurd h
-later_asked before now Done h = absurd h
-later_asked before now NetLong h = absurd h
-later_asked before now (NetRefused number why) h = absurd h
-later_asked before now ReadFault h = absurd h
-later_asked before now WriteFault h = absurd h
-later_asked before now InputLong h = absurd h
-
-none_asked : (before now : Outside) (status : Status) → Ends None before now status →
-    (status ≡ Words) ⊎ (status ≡ Memory)
-none_asked before now Words h = inl refl
-none_asked before now Memory h = inr refl
-none_asked before now Later h = absurd h
-none_asked before now Done h = absurd h
-none_asked before now NetLong h = absurd h
-none_asked before now (NetRefused number why) h = absurd h
-none_asked before now ReadFault h = absurd h
-none_asked before now WriteFault h = absurd h
-none_asked before now InputLong h = absurd h
-
-pub asked_at : (task : Option Task) (before now : Outside) (status : Status) → Ends task before now status →
-    AskedAt task status
-asked_at None before now status h = none_asked before now status h
-asked_at (Some (Dry net commands)) before now status h = dry_asked net commands before now status h
-asked_at (Some (Init net journal)) before now status h = later_asked before now status h
-asked_at (Some (Serve net journal commands)) before now status h = later_asked before now status h
-asked_at (Some (Replay net journal)) before now status h = later_asked before now status h
-asked_at (Some (Drive net seed count)) before now status h = later_asked before now status h
-asked_at (Some (Migrate net next journal)) before now status h = later_asked before now status h
-asked_at (Some (Live net journal commands)) before now status h = later_asked before now status h
-asked_at (Some (Room net journal commands)) before now status h = later_asked before now status h
-
 -- ---- where nothing is in the way
 
 -- the file has these bytes alone
@@ -483,15 +379,6 @@ calm_read w n c task files status asked is never net commands same a b =
     let names = same_names net commands n.now c.now (sym same ∙ asked ∙ ap (λ v. Some (task_asked v)) is) in
     never (subst (IsThere files) names.0 a) (subst (IsThere files) names.1 b)
 
--- what `read_network` says of a calm shelf
-pub not_read_fault : (e : Status) (r : Result Setup Status) → r ≡ Err e → (r ≢ Err ReadFault) → e ≢ ReadFault
-not_read_fault e r is never same = never (is ∙ ap (λ (v : Status). Err v) same)
-
--- no room is lost
-pub stands_room : {T E : Type 0} (old new : Standing) (r : Result T E) → Stands old new r → new.room ≡ old.room
-stands_room old new (Ok x) h = ap (λ s. s.room) h
-stands_room old new (Err e) h = ap (λ s. s.room) h
-
 pub status_room : (old new : Standing) (status : Status) → StandsAt status old new → new.room ≡ old.room
 status_room old new WriteFault h = ap (λ s. s.room) h
 status_room old new Done h = ap (λ s. s.room) h
@@ -510,16 +397,6 @@ Legal-none setup state none =
     (Legal-from_parts setup [] (record { fit = refl; clear = refl; differ = refl; few = omega arith; one_way = refl }))
 
 -- ---- what holds of equal values
-
-pub stands_alike : (status : Status) (a b c d : Standing) → a ≡ b → c ≡ d → StandsAt status b d → StandsAt status a c
-stands_alike status a b c d p q h =
-    subst (λ (v : Standing). StandsAt status a v) (sym q) (subst (λ (v : Standing). StandsAt status v d) (sym p) h)
-
-pub answers_alike : (P : List ℕ → Type 0) (setup : Setup) (start : State) (left a b c d : Option (List ℕ)) (status : Status) →
-    a ≡ b → c ≡ d → AnswersStream P setup start left b d status → AnswersStream P setup start left a c status
-answers_alike P setup start left a b c d status p q h =
-    subst (λ (v : Option (List ℕ)). AnswersStream P setup start left a v status) (sym q)
-    (subst (λ (v : Option (List ℕ)). AnswersStream P setup start left v d status) (sym p) h)
 
 pub stream_alike : (a b : Setup) (commands : List ℕ) (before now : Outside) (status : Status) → a ≡ b →
     StreamEnds a commands before now status → StreamEnds b commands before now status

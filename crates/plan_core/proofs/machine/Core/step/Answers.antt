@@ -6,7 +6,8 @@ use Rattle.eon_model.specs.Answers.{Gives}
 use Rattle.eon_model.specs.Step.{outcome_of}
 use Rattle.command_text.specs.Told.{told}
 use Rattle.plan_core.specs.declared.decision.Decision.{Decision}
-use Rattle.plan_core.specs.Told.{outcome_told, answer_of, event_of, event_told, CanBeTold}
+use Rattle.journal_record.specs.Told.{event_told}
+use Rattle.plan_core.specs.Told.{outcome_told, answer_of, event_of, CanBeTold}
 use Rattle.plan_core.specs.Seen.{CoreSeen}
 use Rattle.plan_core.specs.Waiting.{CanBeHeld}
 use Rattle.plan_core.proofs.WaitingLaws.{told-Gives, proposed-CanBeHeld, decided-in_range, of-held}
