@@ -110,16 +110,6 @@ enter_made s a b c d f g na nb nc nd nf ng = (
       (sym (append_assoc (name_text s.name) (s.src ∷ s.dst ∷ to_be_bytes w32 s.rate) (leg_text s.class s.leg))),
 )
 
-entered : Name → ℕ → ℕ → ℕ → Class → LegText → EnterText
-entered name src dst rate class leg = record {
-  name = name;
-  src = src;
-  dst = dst;
-  rate = rate;
-  class = class;
-  leg = leg;
-}
-
 abbrev EnterMade : EnterText → List ℕ → Type 0
 EnterMade s v = EventMade 1 (Event.Enter s) v
 

@@ -15,6 +15,7 @@ use Rattle.eon_model.specs.Replies.{Reply}
 use Rattle.eon_model.specs.Events as events
 use Rattle.eon_model.specs.EventText.{is_path_text, has_paths, has_backup_for, is_leg_text, is_event}
 use Rattle.eon_model.specs.Step as step
+use Rattle.eon_model.proofs.ListTests.{below-list_all}
 use Rattle.leg_state.specs.Parts.{AreFibreNumbers}
 use Rattle.plan_core.specs.declared.decision.Decision.{Decision}
 use Rattle.plan_core.specs.declared.proposal.Prepared.{Prepared}
@@ -24,11 +25,6 @@ use Rattle.plan_core.specs.Waiting.{IsNumberedLeg, needed_for, IsPrepared}
 
 -- ---- numbers of fibres
 
-numbers_in : (n : ℕ) (xs : List ℕ) → list_all (λ i. nat_lt i n) xs ≡ true → AllByRecursion (λ i. i < n) xs
-numbers_in n [] h = tt
-numbers_in n (x ∷ xs) h =
-    let p = and_parts (nat_lt x n) (list_all (λ i. nat_lt i n) xs) h in (ltb-true x n p.0, numbers_in n xs p.1)
-
 text-numbers : (p : events.PathText) → is_path_text p ≡ true → AreFibreNumbers p.fibres
 text-numbers p h =
     let a = and_parts (nat_le 1 (length p.fibres) && nat_le (length p.fibres) 63
@@ -37,7 +33,7 @@ text-numbers p h =
     (list_all (λ i. nat_lt i 128) p.fibres) a.0 in
     record {
       few = leb-true (length p.fibres) 63 (and_parts (nat_le 1 (length p.fibres)) (nat_le (length p.fibres) 63) b.0).1;
-      below = All-from_recursion (λ n. n < 128) p.fibres (numbers_in 128 p.fibres b.1);
+      below = All-from_recursion (λ n. n < 128) p.fibres (below-list_all 128 p.fibres b.1);
     }
 
 leg-numbers : (l : Leg) (back : Option Path) → l.back ≡ back →

@@ -22,7 +22,7 @@ use Rattle.eon_model.proofs.FindLaws.{find_has}
 use Rattle.eon_model.proofs.LegalLaws.{Legal-parts}
 use Rattle.eon_model.proofs.GridLaws.{lies_in_band_within}
 use Rattle.eon_model.proofs.ShrinkLaws.{hull_has}
-use Rattle.eon_model.proofs.ClashLaws.{no-some}
+use Rattle.eon_model.proofs.ListTests.{no-some}
 use Rattle.eon_model.proofs.ChangeLaws.{named_fits}
 use Rattle.eon_model.proofs.BackupLaws.{fits-parts, backup-path}
 use Rattle.eon_model.proofs.RangeLaws.{path-range}

@@ -10,6 +10,7 @@ use Rattle.std.proofs.lemmas.List.Elements.{filter_map-append}
 use Rattle.eon_model.specs.Names.{Name}
 use Rattle.eon_model.specs.Network.{Network, name_at, fibre_of}
 use Rattle.eon_model.specs.Step.{is_fibre}
+use Rattle.eon_model.proofs.ListTests.{cons-option}
 use Rattle.leg_state.proofs.ClashLemmas.{find_here, find_past}
 use Rattle.command_text.specs.declared.command.BackWords.{BackWords}
 use Rattle.command_text.specs.Told.{told_backs}
@@ -46,10 +47,6 @@ module _ (net : Network) (names : List Name) (i : ℕ) (name : Name) (number : O
       rw (add-one i)
       (sym (find_past (λ n. not (is_fibre net n)) names i name (name-there names i l ∙ ap Some (sym at))
       (known_by number (fibre_of net name) none false is some e)) ∙ before)
-
-cons-option : {X : Type 0} (o : Option X) → cons_option o [] ≡ option_to_list o
-cons-option None = refl
-cons-option (Some x) = refl
 
 -- the numbers of one more name
 pub numbers_more : (net : Network) (names : List Name) (i : ℕ) → i < length names →

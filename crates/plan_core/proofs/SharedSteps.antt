@@ -18,25 +18,11 @@ use Rattle.eon_model.proofs.ListLaws.{IsIn-filter, IsIn-map, in_range}
 use Rattle.eon_model.proofs.FoundLaws.{found, of-IsIn-map, of-IsIn-filter}
 use Rattle.eon_model.proofs.Members.{list_all-at, list_all-of}
 use Rattle.eon_model.proofs.LeastNameLaws.{itself, least_name-some}
-use Rattle.eon_model.proofs.SharedNames.{SameMembers, least_name-same}
+use Rattle.eon_model.proofs.SharedNames.{least_name-same, none-empty, neither_above, ties-in, in-ties, same-map}
+use Rattle.eon_model.proofs.NumberLaws.{lt-less}
 use Rattle.plan_core.specs.Placing.{lesser, least_with, shared_below}
 
 -- ---- the least of one more name
-
-lt_is : (x : Ordering) → is_lt x ≡ true → x ≡ Less
-lt_is Less e = refl
-lt_is Equal e = absurd (false≢true e)
-lt_is Greater e = absurd (false≢true e)
-
-equal_order : (o : Ordering) → is_lt o ≡ false → is_lt (ordering_reverse o) ≡ false → o ≡ Equal
-equal_order Less l g = absurd (false≢true (sym l))
-equal_order Equal l g = refl
-equal_order Greater l g = absurd (false≢true (sym g))
-
-neither_above : (a b : Name) → is_above a b ≡ false → is_above b a ≡ false → a ≡ b
-neither_above a b h k =
-    slice_cmp-IsAntisymmetric nat_cmp-IsAntisymmetric a b
-    (equal_order (name_cmp a b) k (ap is_lt (sym (nat_list_cmp_total.antisymm b a)) ∙ h))
 
 -- one of them that is above no other is the least
 least-is : (names : List Name) (a : Name) → IsIn a names → ((b : Name) → IsIn b names → is_above a b ≡ false) →
@@ -70,7 +56,7 @@ below_all : (names : List Name) (a b : Name) → is_above b a ≡ true → ((c :
 below_all names a b under low c i = elim (cases_Bool (is_above a c)) [
   | inr f ↦ f
   | inl t ↦ absurd (false≢true (sym (low c i)
-      ∙ ap is_lt (nat_list_cmp_total.trans c a b (lt_is (name_cmp c a) t) (lt_is (name_cmp a b) under))))
+      ∙ ap is_lt (nat_list_cmp_total.trans c a b (lt-less (name_cmp c a) t) (lt-less (name_cmp a b) under))))
 ]
 
 least_of : (names : List Name) (a b : Name) → IsIn b names → ((c : Name) → IsIn c names → is_above b c ≡ false) →
@@ -81,10 +67,6 @@ least_of names a b i low true e = least-is (names ++ a ∷ []) a (in-last names 
 least_of names a b i low false e = least-is (names ++ a ∷ []) b (in-append_left names (a ∷ []) b i)
     (λ c k. of-append names a c k (is_above b c ≡ false) (low c)
     (λ same. subst (λ (x : Name). is_above b x ≡ false) (sym same) e))
-
-none-empty : (names : List Name) → least_name names ≡ None → names ≡ []
-none-empty [] e = refl
-none-empty (x ∷ names) e = absurd (least_name-some x names e)
 
 least-more : (names : List Name) (a : Name) → least_name (names ++ a ∷ []) ≡ Some (lesser (least_name names) a)
 least-more names a = elim (found (λ x. list_all (λ b. not (is_above x b)) names) names) [
@@ -133,28 +115,6 @@ least_below-more net s t i =
     ∙ with_group net (shared_below net s t i) i (p i))
 
 -- ---- all groups
-
-ties-in : (n : ℕ) (xs : List ℕ) → list_any (eq_by_cmp nat_cmp n) xs ≡ true → IsIn n xs
-ties-in n [] h = absurd (false≢true h)
-ties-in n (x ∷ xs) h = elim (or_cases (eq_by_cmp nat_cmp n x) (list_any (eq_by_cmp nat_cmp n) xs) h) [
-  | inl e ↦ inl (nat_cmp-IsAntisymmetric n x ((Equal-is (nat_cmp n x)).0 e))
-  | inr more ↦ inr (ties-in n xs more)
-]
-
-in-ties : (n : ℕ) (xs : List ℕ) → IsIn n xs → list_any (eq_by_cmp nat_cmp n) xs ≡ true
-in-ties n [] i = absurd i
-in-ties n (x ∷ xs) i = elim i [
-  | inl e ↦ or_left _ _ (subst (λ (m : ℕ). eq_by_cmp nat_cmp n m ≡ true) e ((eq_by_cmp_equiv nat_cmp_total).refl n))
-  | inr more ↦ or_right _ _ (in-ties n xs more)
-]
-
-same-map : {X Y : Type 0} (f : X → Y) (xs ys : List X) → SameMembers xs ys → SameMembers (map f xs) (map f ys)
-same-map {Y = Y} f xs ys m = (
-  λ y i. let x = of-IsIn-map f xs y i in
-      subst (λ (v : Y). IsIn v (map f ys)) (sym x.1.1) (IsIn-map f x.0 ys (m.0 x.0 x.1.0)),
-  λ y i. let x = of-IsIn-map f ys y i in
-      subst (λ (v : Y). IsIn v (map f xs)) (sym x.1.1) (IsIn-map f x.0 xs (m.1 x.0 x.1.0)),
-)
 
 -- where the members of the one set lie below the number, the least name of all is found
 pub least_below-all : (net : Network) (s t : NumberSet) (n : ℕ) →

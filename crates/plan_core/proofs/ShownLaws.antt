@@ -14,6 +14,7 @@ use Rattle.eon_model.proofs.OrderLaws.{IsIn, AllOf, AllOf-sort, route_cmp_total}
 use Rattle.eon_model.proofs.ListLaws.{AllOf-filter, AllOf-map, all_kept}
 use Rattle.eon_model.proofs.FirstRoutesLaws.{route_of-is_route, is_route-route_of}
 use Rattle.eon_model.proofs.FoundLaws.{found}
+use Rattle.eon_model.proofs.ListTests.{list_all-below}
 use Rattle.eon_model.proofs.RouteLaws.{walks-IsListed}
 use Rattle.eon_model.proofs.SetupLaws.{setup-EndsAreNodes}
 use Rattle.std.specs.FinSet.{empty}
@@ -141,10 +142,6 @@ first_within net s t banned k max_km =
     (AllOf-filter (λ r. is_route net s t r ≡ true) (is_open banned max_km) (all_routes net s t) routes)
     (all_kept (is_open banned max_km) (all_routes net s t))))
 
-all_listed : (n : ℕ) (is : List ℕ) → AllByRecursion (λ i. i < n) is → list_all (λ i. nat_lt i n) is ≡ true
-all_listed n [] a = refl
-all_listed n (i ∷ is) a = and_from _ _ (lt-ltb i n a.0) (all_listed n is a.1)
-
 all_shown : (setup : Setup) (s t : ℕ) (rs : List Route) → is_setup setup ≡ true → 1 ≤ length setup.formats →
     AllOf (IsWithin setup.network s t (max_reach setup.formats)) rs → list_all (can_show setup) rs ≡ true
 all_shown setup s t [] ok some a = refl
@@ -152,7 +149,7 @@ all_shown setup s t (r ∷ rs) ok some a =
     let walk = (is_route-route_of setup.network s t r a.0.route).1 in
     let listed = walks-IsListed setup.network s t r.fibres (setup-EndsAreNodes setup ok) walk in
     and_from _ _
-    (and_from _ _ (all_listed (length setup.network.fibres) r.fibres listed.fibres)
+    (and_from _ _ (list_all-below (length setup.network.fibres) r.fibres listed.fibres)
     (reached setup.formats r.km some (leb-true r.km (max_reach setup.formats) a.0.short)))
     (all_shown setup s t rs ok some a.1)
 

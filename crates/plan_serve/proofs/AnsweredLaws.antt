@@ -12,7 +12,7 @@ use Rattle.eon_model.specs.LineStream.{is_quit, lines_of, AnswersEach, after_eac
 use Rattle.eon_model.specs.Run.{Answering, Runs, Situation, situation, planner, answer_text, answers_text, changes_of, state_at_end, MissesOnly}
 use Rattle.eon_model.specs.Later.{AnswersSoFar}
 use Rattle.eon_model.proofs.AnswersWell.{so_far-well}
-use Rattle.eon_model.proofs.RunLaws.{stays, states-sound, beginnings-early}
+use Rattle.eon_model.proofs.RunLaws.{stays, states-sound, beginnings-early, answers_text-append}
 use Rattle.eon_model.proofs.StreamRuns.{each-goes_on}
 use Rattle.eon_model.proofs.MissedLines.{misses-fewer}
 use Rattle.plan_core.specs.Built.{is_built}
@@ -29,15 +29,6 @@ after-answers : (setup : Setup) (state : State) (answers : List Answer) →
     after_each (planner so_far setup) (situation state None) answers ≡ situation (state_at_end setup state answers) None
 after-answers setup state [] = refl
 after-answers setup state (a ∷ later) = after-answers setup (state_after setup.network state a.event) later
-
-text-append : (setup : Setup) (state : State) (xs ys : List Answer) →
-    answers_text setup state (xs ++ ys)
-    ≡ answers_text setup state xs ++ answers_text setup (state_at_end setup state xs) ys
-text-append setup state [] ys = refl
-text-append setup state (x ∷ xs) ys =
-    let after = state_after setup.network state x.event in
-    ap (λ (v : List ℕ). answer_text setup state x ++ v) (text-append setup after xs ys)
-    ∙ sym (append_assoc (answer_text setup state x) (answers_text setup after xs) _)
 
 end-append : (setup : Setup) (state : State) (xs ys : List Answer) →
     state_at_end setup state (xs ++ ys) ≡ state_at_end setup (state_at_end setup state xs) ys
@@ -113,7 +104,7 @@ module _ (setup : Setup) (start here : State) (lines : List (List ℕ)) (text li
         ∙ ap (λ (v : State). answers_text setup start h.answers ++ answer_text setup v a) h.state
         ∙ ap (λ (v : List ℕ). answers_text setup start h.answers ++ v)
         (sym (append-nil (answer_text setup (state_at_end setup start h.answers) a)))
-        ∙ sym (text-append setup start h.answers (a ∷ []));
+        ∙ sym (answers_text-append setup start h.answers (a ∷ []));
   }
 
   -- the answers up to `quit`, whatever comes behind it
@@ -191,7 +182,7 @@ module _ (setup : Setup) (start here : State) (ok : is_setup setup ≡ true) (le
         run = record {
           answers = h.answers ++ later.0;
           answered = subst (λ (v : List (List ℕ)). Answered setup h.missed start v (h.answers ++ later.0)) (sym is) later.1;
-          told = ap (λ (v : List ℕ). v ++ rest) h.told ∙ sym (text-append setup start h.answers later.0);
+          told = ap (λ (v : List ℕ). v ++ rest) h.told ∙ sym (answers_text-append setup start h.answers later.0);
           changed = refl;
         };
       }

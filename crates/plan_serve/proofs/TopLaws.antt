@@ -8,6 +8,7 @@ use Rattle.std.proofs.lemmas.Bool.{both_ways}
 use Rattle.eon_model.specs.Legal.{Setup, Legal}
 use Rattle.eon_model.specs.Services.{State}
 use Rattle.eon_model.specs.NetworkText.{IsNetworkTextOf}
+use Rattle.eon_model.proofs.TextNumbers.{some_is}
 use Rattle.eon_model.proofs.LegalLaws.{Legal-from_parts}
 use Rattle.eon_model.specs.Modes.{Task, network_limit, is_long_stream}
 use Rattle.eon_model.specs.Modes.Task.{Dry, Init, Serve, Replay, Drive, Migrate, Live, Room}
@@ -62,9 +63,6 @@ part_given T E line before now old new e part stands = record {
 }
 
 -- ---- the network
-
-some_is : (x y : List ℕ) → ◌≡◌ {A = Option (List ℕ)} (Some x) (Some y) → x ≡ y
-some_is x y e = cc
 
 some_long : (n : ℕ) → (bytes : List ℕ) × (length bytes ≡ n)
 some_long n = (replicate n 0, length-replicate n 0)
