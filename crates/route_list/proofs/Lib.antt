@@ -1,6 +1,7 @@
-pub mod WalkOrder
-pub mod CountLaws
-pub mod SearchLaws
-pub mod EndLaws
-pub mod GrowLaws
-pub mod TakeLaws
+pub mod DistanceLaws
+pub mod WayLaws
+pub mod LeastLaws
+pub mod FrontLaws
+pub mod DeviateLaws
+pub mod PoolLaws
+pub mod NextLaws

@@ -1,2 +1,4 @@
-pub mod Walks
-pub mod Search
+pub mod Distance
+pub mod Ways
+pub mod Fronts
+pub mod Pools

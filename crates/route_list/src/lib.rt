@@ -1,11 +1,14 @@
-//! The first routes between two nodes. The layer above calls `routes`, which grows walks from one node, the least
-//! first, until enough of them have come to the other, and counts each walk that it takes up.
+//! The first routes between two nodes. The layer above calls `routes`, which finds the least route, and then the next
+//! one as the least of those that leave the found ones, each by one run of `least_walk`.
 #![tactic(auto)]
 
+mod deviation;
+mod distance;
+mod least;
 mod search;
 #[cfg(test)]
 mod tests;
-mod walk;
 
+pub use least::least_walk;
 pub use net_graph::RouteList;
 pub use search::routes;

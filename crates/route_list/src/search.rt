@@ -1,99 +1,77 @@
-//! The search: walks from the source in order, each grown by one fibre until it comes to the target.
+//! The first routes, one after another: each is the earliest of the deviations from those before it.
 
-ghost use Rattle.std.specs.Prelude.{◌≡◌, ℕ, ◌+◌, ◌<◌, ◌≤◌, List, [], ◌∷◌, length, Some, IfOk, OnOk, All, IsTrue};
-ghost use Rattle.std.specs.BTreeMap.Range.{IsLtBy};
+ghost use Rattle.std.specs.Prelude.{◌≡◌, ℕ, ◌+◌, ◌*◌, ◌<◌, ◌≤◌, length, map, filter, false, not, slice_index_or, take, IfOk};
+ghost use Rattle.std.specs.Ordering.{is_lt};
 ghost use Rattle.eon_model.specs.Routes.{first_routes};
 ghost use Rattle.eon_model.specs.Sets.{has_member};
-ghost use Rattle.net_graph.specs.Graph.{is_graph};
-ghost use Rattle.net_graph.specs.Stands.{start, stand_after};
-ghost use Rattle.route_list.specs.Walks.{walk_order};
-ghost use Rattle.route_list.specs.Search.{IsGood, Grown, Searched, to_search};
+ghost use Rattle.eon_model.specs.Deviations.{is_front};
+ghost use Rattle.route_list.specs.declared.deviation.Deviation.{Deviation as Entry};
+ghost use Rattle.route_list.specs.Fronts.{seen};
+ghost use Rattle.route_list.specs.Pools.{numbers_cmp, IsTaken, runs_for};
 
-use crate::walk::{Ask, Walk, goes_on};
+use crate::deviation::{Ask, Deviation, begin, goes_past, renew};
 use eon_base::steps::Steps;
-use net_graph::{FibreSet, Net, Route, RouteList, Stand, stand_at};
+use net_graph::{FibreSet, Net, Route, RouteList};
 use std::alloc::{AllocError, Global};
-use std::collections::BTreeSet;
 use std::sync::ledger::Ledger;
 
-// Puts the walk with this fibre more among those that are left, if it can go on by it.
-fn grow_by(
-    alloc: Global,
-    net: &Net,
-    ask: Ask,
-    banned: &FibreSet,
-    walk: &Walk,
-    stand: &Stand,
-    fibre: u8,
-    left: &mut BTreeSet<Walk>,
-) -> Result<(), AllocError>
-    requires known { fibre < length net.now.fibres }
-    requires small { fibre < 128 }
-    requires stands { stand_after net.now.fibres (start ask.s) walk.now.fibres.items ≡ Some stand.now }
-    requires good { IsGood net.now ask.s (has_member banned.now) ask.max_km walk.now }
-    ensures grown { OnOk result ((old : List Walk) → Grown net.now ask.s (has_member banned.now) ask.max_km walk.now.fibres.items fibre old left.old.keys → Grown net.now ask.s (has_member banned.now) ask.max_km walk.now.fibres.items (fibre + 1) old left.new.keys) }
+// Whether the first of the two comes before the other: it is shorter, or as long and its list of numbers is less.
+fn comes_before(a: &Route, b: &Route) -> bool
+    ensures { result ≡ is_lt (numbers_cmp a.now b.now) }
 {
-    if !goes_on(net, stand, walk.km, fibre, banned, ask.max_km) {
-        return Ok(());
-    }
-    let longer = walk.longer(alloc, net, fibre, ask.max_km)?;
-    left.insert(longer)?;
-    Ok(())
+    let by_length = a.km().cmp(&b.km());
+    by_length.then(a.fibres().cmp(b.fibres())).is_lt()
 }
 
-// Puts all walks with one fibre more among those that are left.
-fn grow(
-    alloc: Global,
-    net: &Net,
-    ask: Ask,
-    banned: &FibreSet,
-    walk: &Walk,
-    left: &mut BTreeSet<Walk>,
-) -> Result<(), AllocError>
-    requires source { ask.s < 64 }
-    requires good { IsGood net.now ask.s (has_member banned.now) ask.max_km walk.now }
-    ensures grown { OnOk result (Grown net.now ask.s (has_member banned.now) ask.max_km walk.now.fibres.items (length net.now.fibres) left.old.keys left.new.keys) }
+// The place of the earliest of these.
+fn earliest(pool: &[Deviation]) -> usize
+    requires { 0 < length pool.now }
+    ensures inside { result < length pool.now }
+    ensures first { (j : ℕ) (d : Entry) → j < length pool.now → is_lt (numbers_cmp (slice_index_or pool.now j d).route (slice_index_or pool.now result d).route) ≡ false }
 {
-    let Some(stand) = stand_at(net, ask.s, &walk.fibres) else {
-        return Ok(());
-    };
-    for fibre in 0..net.fibres() {
-        grow_by(alloc, net, ask, banned, walk, &stand, fibre, left)?;
-    }
-    Ok(())
-}
-
-// Takes the walk up, which is less than all that are left: the next route where it ends at the target, and else it is
-// grown.
-fn take_up(
-    alloc: Global,
-    net: &Net,
-    ask: Ask,
-    banned: &FibreSet,
-    walk: &Walk,
-    left: &mut BTreeSet<Walk>,
-    routes: &mut Vec<Route>,
-) -> Result<(), AllocError>
-    requires source { ask.s < 64 }
-    requires graph { IsTrue (is_graph net.now) }
-    requires searched { Searched net.now ask.s ask.t (has_member banned.now) ask.max_km routes.old.items (walk.now ∷ left.old.keys) }
-    requires least { All (IsLtBy walk_order walk.now) left.old.keys }
-    ensures searched { OnOk result (Searched net.now ask.s ask.t (has_member banned.now) ask.max_km routes.new.items left.new.keys) }
-    ensures less { OnOk result (to_search net.now left.new.keys < to_search net.now (walk.now ∷ left.old.keys)) }
-    ensures one { OnOk result (length routes.new.items ≤ length routes.old.items + 1) }
-{
-    match Route::make(alloc, net, ask.s, ask.t, &walk.fibres)? {
-        None => grow(alloc, net, ask, banned, walk, left),
-        Some(route) => {
-            routes.push(route)?;
-            Ok(())
+    let mut best = 0;
+    for i in 1..pool.len() {
+        if comes_before(&pool[i].route, &pool[best].route) {
+            best = i;
         }
     }
+    best
+}
+
+// Takes the earliest route out of the pool.
+fn take_earliest(pool: &mut Vec<Deviation>) -> Option<Route>
+    ensures { IsTaken (map seen pool.old.items) (map seen pool.new.items) result }
+{
+    if pool.is_empty() {
+        return None;
+    }
+    let best = earliest(pool);
+    let Deviation { shared: _, route } = pool.remove(best);
+    Some(route)
+}
+
+// Whether these fibres begin with so many of the route's, and go on.
+fn begin_with(fibres: &[u8], deviation: &Deviation) -> bool
+    ensures { result ≡ is_front (seen deviation.now).front fibres.now }
+{
+    let own = deviation.route.fibres();
+    goes_past(&own[..deviation.shared.min(own.len())], fibres)
+}
+
+// Lets those go whose front is one of these fibres.
+fn forget(pool: &mut Vec<Deviation>, fibres: &[u8])
+    ensures { map seen pool.new.items ≡ filter (λ d. not (is_front d.front fibres.now)) (map seen pool.old.items) }
+{
+    pool.retain(
+        |deviation: &Deviation| -> bool
+            ensures { result ≡ not (is_front (seen deviation.now).front fibres.entry.now) }
+        { !begin_with(fibres, deviation) },
+    );
 }
 
 /// The first `k` routes from `s` to `t` without a banned fibre and at most `max_km` long, in order: the shorter first,
-/// and of one length the one whose list of names comes first. All of them where there are fewer. Each walk that is
-/// taken up is one step, so there are at least as many steps as routes.
+/// and of one length the one whose list of names comes first. All of them where there are fewer. Each run of
+/// `least_walk` is one step: the first one, and then one at each node of each route but the last of `k`, its end aside.
 pub fn routes<L: Ledger>(
     alloc: Global,
     net: &Net,
@@ -109,21 +87,24 @@ pub fn routes<L: Ledger>(
     ensures routes { IfOk result (λ rs. rs ≡ first_routes net.now s t (has_member banned.now) k max_km) }
     ensures counted { steps.old ≤ steps.new }
     ensures least { IfOk result (λ rs. steps.old + length rs ≤ steps.new) }
+    ensures runs { IfOk result (λ rs. steps.new ≡ steps.old + runs_for k rs) }
+    ensures most { steps.new ≤ steps.old + 1 + k * length net.now.nodes }
 {
-    let _ = net.fibres();
-    let mut routes = Vec::new(alloc);
-    if s == t {
-        return Ok(RouteList::of(routes));
+    let _ = net.nodes();
+    let mut found = Vec::new(alloc);
+    if k == 0 {
+        return Ok(RouteList::of(found));
     }
     let ask = Ask { s, t, max_km };
-    let mut left = BTreeSet::new(alloc);
-    left.insert(Walk::empty(alloc))?;
-    while routes.len() < k as usize {
-        let Some(walk) = left.pop_first() else {
-            return Ok(RouteList::of(routes));
-        };
-        steps.tick();
-        take_up(alloc, net, ask, banned, &walk, &mut left, &mut routes)?;
+    let mut pool = begin(alloc, net, ask, banned, steps)?;
+    while let Some(route) = take_earliest(&mut pool) {
+        forget(&mut pool, route.fibres());
+        found.push(route)?;
+        if found.len() >= k as usize {
+            return Ok(RouteList::of(found));
+        }
+        let last = found[found.len() - 1].fibres();
+        renew(alloc, net, ask, banned, &found, last, &mut pool, steps)?;
     }
-    Ok(RouteList::of(routes))
+    Ok(RouteList::of(found))
 }
