@@ -10,3 +10,4 @@ pub mod ListingLaws
 pub mod AdmitSteps
 pub mod ShownLaws
 pub mod ReplyLaws
+pub mod DrillSteps

@@ -6,15 +6,15 @@ use Rattle.std.proofs.lemmas.List.Folds.{find-append}
 use Rattle.eon_model.specs.declared.Part.TheVariants.{Work, Backup}
 use Rattle.eon_model.specs.Names.{Name, same_name, least_name}
 use Rattle.eon_model.specs.Sets.{common_members}
-use Rattle.eon_model.specs.Network.{Network, fibre_of, risk_name}
+use Rattle.eon_model.specs.Network.{Network, fibre_of, risk_number_of, risk_name}
 use Rattle.eon_model.specs.Route.{Route}
 use Rattle.eon_model.specs.Services.{Leg, Service, State, service_of}
-use Rattle.eon_model.specs.Legal.{Setup}
+use Rattle.eon_model.specs.Legal.{Setup, Legal}
 use Rattle.eon_model.specs.NetworkText.{is_setup}
 use Rattle.eon_model.specs.Commands.{Demand, PathWords, Command}
 use Rattle.eon_model.specs.Replies.{Reply}
 use Rattle.eon_model.specs.Events as events
-use Rattle.eon_model.specs.Listings.{map_text}
+use Rattle.eon_model.specs.Listings.{map_text, hits_of}
 use Rattle.eon_model.specs.Step.{Outcome, Say, Change, or_else, ◌when◌, or_blocked, AskedPath, asked, is_node, unknown_in, enters, for_service, for_number, node_numbered, place, admit, routes, outcome_of}
 use Rattle.eon_model.proofs.NameLaws.{names_equal}
 use Rattle.eon_model.proofs.ChangeLaws.{otherwise-Change, tried}
@@ -24,6 +24,7 @@ use Rattle.plan_core.specs.declared.decision.Decision.TheVariants as decision
 use Rattle.plan_core.specs.Built.{is_built}
 use Rattle.plan_core.specs.Told.{outcome_told, CanBeTold}
 use Rattle.plan_core.proofs.ShownLaws.{shown-over}
+use Rattle.plan_core.proofs.DrillSteps.{hits-told}
 
 -- ---- causes
 
@@ -119,27 +120,35 @@ routes-said setup state s t r ok =
     (plain-map setup state Reply.Unknown _ (λ x. refl))
     (plain-say setup state _ r (shown-over setup (node_numbered setup.network s) (node_numbered setup.network t) _ ok refl))
 
-outcome-said : (setup : Setup) (state : State) (c : Command) (r : Reply) → is_setup setup ≡ true →
+drill-said : (setup : Setup) (state : State) (number : Option ℕ) (g : Name) (r : Reply) → is_setup setup ≡ true →
+    Legal setup state → for_number number g (λ i. Say (Reply.Drill g (hits_of i state))) ≡ Say r →
+    can_tell setup state r ≡ true
+drill-said setup state None g r ok legal h = plain-say setup state (Reply.Unknown g) r refl h
+drill-said setup state (Some i) g r ok legal h =
+    plain-say setup state (Reply.Drill g (hits_of i state)) r (hits-told setup state i ok legal) h
+
+outcome-said : (setup : Setup) (state : State) (c : Command) (r : Reply) → is_setup setup ≡ true → Legal setup state →
     is_built c ≡ true → outcome_of setup state c ≡ Say r → can_tell setup state r ≡ true
-outcome-said setup state (Command.Place d w b) r ok built h = place-said setup state d w b r h
-outcome-said setup state (Command.Admit d) r ok built h = admit-said setup state d r h
-outcome-said setup state (Command.Release name) r ok built h =
+outcome-said setup state (Command.Place d w b) r ok legal built h = place-said setup state d w b r h
+outcome-said setup state (Command.Admit d) r ok legal built h = admit-said setup state d r h
+outcome-said setup state (Command.Release name) r ok legal built h =
     release-said setup state (service_of state name) name r h
-outcome-said setup state (Command.Push name n) r ok built h = cc
-outcome-said setup state (Command.Make name avoid) r ok built h = cc
-outcome-said setup state (Command.Finish name) r ok built h = cc
-outcome-said setup state (Command.Back name) r ok built h = cc
-outcome-said setup state (Command.Refit name) r ok built h = cc
-outcome-said setup state Command.Compact r ok built h = cc
-outcome-said setup state (Command.Drill g) r ok built h = cc
-outcome-said setup state (Command.Routes s t) r ok built h = routes-said setup state s t r ok h
-outcome-said setup state (Command.Show name) r ok built h = show-said setup state (service_of state name) name r refl h
-outcome-said setup state Command.List r ok built h = plain-say setup state Reply.List r refl h
-outcome-said setup state (Command.Map name) r ok built h =
+outcome-said setup state (Command.Push name n) r ok legal built h = cc
+outcome-said setup state (Command.Make name avoid) r ok legal built h = cc
+outcome-said setup state (Command.Finish name) r ok legal built h = cc
+outcome-said setup state (Command.Back name) r ok legal built h = cc
+outcome-said setup state (Command.Refit name) r ok legal built h = cc
+outcome-said setup state Command.Compact r ok legal built h = cc
+outcome-said setup state (Command.Drill g) r ok legal built h =
+    drill-said setup state (risk_number_of setup.network g) g r ok legal h
+outcome-said setup state (Command.Routes s t) r ok legal built h = routes-said setup state s t r ok h
+outcome-said setup state (Command.Show name) r ok legal built h = show-said setup state (service_of state name) name r refl h
+outcome-said setup state Command.List r ok legal built h = plain-say setup state Reply.List r refl h
+outcome-said setup state (Command.Map name) r ok legal built h =
     map-said setup state (fibre_of setup.network name) name r h
-outcome-said setup state Command.Stats r ok built h = plain-say setup state _ r refl h
-outcome-said setup state Command.Report r ok built h = plain-say setup state _ r refl h
-outcome-said setup state Command.Quit r ok built h = plain-say setup state Reply.Bye r refl h
+outcome-said setup state Command.Stats r ok legal built h = plain-say setup state _ r refl h
+outcome-said setup state Command.Report r ok legal built h = plain-say setup state _ r refl h
+outcome-said setup state Command.Quit r ok legal built h = plain-say setup state Reply.Bye r refl h
 
 -- ---- replies of changes
 
@@ -226,7 +235,8 @@ outcome-changed setup state (Command.Finish name) e r built h = cc
 outcome-changed setup state (Command.Back name) e r built h = cc
 outcome-changed setup state (Command.Refit name) e r built h = cc
 outcome-changed setup state Command.Compact e r built h = cc
-outcome-changed setup state (Command.Drill g) e r built h = cc
+outcome-changed setup state (Command.Drill g) e r built h =
+    absurd (said-number (risk_number_of setup.network g) g (λ i. Reply.Drill g (hits_of i state)) e r h)
 outcome-changed setup state (Command.Routes s t) e r built h = absurd (said-else _ _ e r h)
 outcome-changed setup state (Command.Show name) e r built h =
     absurd (said-alone (service_of state name) name (Reply.Show name) e r h)
@@ -240,6 +250,6 @@ outcome-changed setup state Command.Quit e r built h = cc
 -- ---- what is decided
 
 pub outcome-tells : (setup : Setup) (state : State) (c : Command) (d : Decision) → is_setup setup ≡ true →
-    is_built c ≡ true → outcome_told d ≡ outcome_of setup state c → CanBeTold setup state d
-outcome-tells setup state c (decision.Say r) ok built h = outcome-said setup state c _ ok built (sym h)
-outcome-tells setup state c (decision.Change e r) ok built h = outcome-changed setup state c _ _ built (sym h)
+    Legal setup state → is_built c ≡ true → outcome_told d ≡ outcome_of setup state c → CanBeTold setup state d
+outcome-tells setup state c (decision.Say r) ok legal built h = outcome-said setup state c _ ok legal built (sym h)
+outcome-tells setup state c (decision.Change e r) ok legal built h = outcome-changed setup state c _ _ built (sym h)

@@ -12,6 +12,7 @@ is_built Command.List = true
 is_built (Command.Map fibre) = true
 is_built Command.Stats = true
 is_built Command.Report = true
+is_built (Command.Drill group) = true
 is_built (Command.Routes src dst) = true
 is_built Command.Quit = true
 is_built _ = false

@@ -18,6 +18,7 @@ pub fn is_built(command: &Command) -> bool
         | Command::Map { .. }
         | Command::Stats
         | Command::Report
+        | Command::Drill { .. }
         | Command::Routes { .. }
         | Command::Quit => true,
         _ => false,

@@ -15,7 +15,7 @@ ghost use Rattle.plan_core.specs.Waiting.{IsPrepared};
 
 use crate::admit::admit;
 use crate::demand::Demand;
-use crate::listings::{map, report, stats};
+use crate::listings::{drill, map, report, stats};
 use crate::place::place;
 use crate::proposal::{Prepared, Proposal, change, say};
 use crate::routes::routes_between;
@@ -112,6 +112,7 @@ pub fn proposal_for(
         Command::Map { fibre } => Ok(say(map(alloc, setup, services, fibre)?)),
         Command::Stats => Ok(say(stats(setup, services))),
         Command::Report => Ok(say(report(alloc, setup, services)?)),
+        Command::Drill { group } => Ok(say(drill(alloc, setup, services, group)?)),
         Command::Routes { src, dst } => Ok(say(routes_between(alloc, setup, src, dst)?)),
         Command::Quit => Ok(say(Reply::Bye)),
         _ => unreachable!(),

@@ -45,6 +45,29 @@ pub fn map(
     }
 }
 
+/// What `drill` says.
+pub fn drill(
+    alloc: Global,
+    setup: &NetSetup,
+    services: &Services,
+    group: &Name,
+) -> Result<Reply, AllocError>
+    requires in_range { IsTrue (is_setup setup.now) }
+    requires legal { Legal setup.now services.now.list }
+    ensures { IfOk result (λ r. step.Say (reply_told r) ≡ step.drill setup.now.network services.now.list group.now) }
+{
+    match setup.net.risk_of(group) {
+        Some(number) => {
+            let hits = failure_drill::drill(alloc, services, number)?;
+            Ok(Reply::Drill {
+                group: *group,
+                hits,
+            })
+        }
+        None => Ok(Reply::Unknown { name: *group }),
+    }
+}
+
 /// What `report` says.
 pub fn report(alloc: Global, setup: &NetSetup, services: &Services) -> Result<Reply, AllocError>
     requires in_range { IsTrue (is_setup setup.now) }

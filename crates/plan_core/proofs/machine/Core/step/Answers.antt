@@ -1,6 +1,7 @@
 use Rattle.std.proofs.Common.{◌≡◌, subst, true}
 use Rattle.std.specs.Prelude.{IfSome}
 use Rattle.eon_model.specs.EventText.{is_event}
+use Rattle.eon_model.specs.Legal.{Legal}
 use Rattle.eon_model.specs.NetworkText.{is_setup}
 use Rattle.eon_model.specs.Answers.{Gives}
 use Rattle.eon_model.specs.Step.{outcome_of}
@@ -43,6 +44,7 @@ returns-clause-can_tell c =
     c.in_ok-proposal.proposal.decision c.hold.ensures.decision
     (outcome-tells c.args.self.now.setup c.args.self.now.state (told c.args.c.now)
     c.in_ok-proposal.proposal.decision
-    (subst (λ (v : CoreSeen). is_setup v.setup ≡ true) c.self.view_is c.self.invariant.in_range) c.requires.built
+    (subst (λ (v : CoreSeen). is_setup v.setup ≡ true) c.self.view_is c.self.invariant.in_range)
+    (subst (λ (v : CoreSeen). Legal v.setup v.state) c.self.view_is c.self.invariant.legal) c.requires.built
     (subst (λ (v : CoreSeen). outcome_told c.in_ok-proposal.proposal.decision ≡ outcome_of v.setup v.state (told c.args.c.now))
     c.self.view_is c.in_ok-proposal.ensures.is))
