@@ -1,7 +1,7 @@
 #!/usr/bin/env bash
 # Answers generated streams by `eonplan dry` and by the plain planner, compares the replies, and times eonplan.
 #
-# usage: compare.sh [LINES] [SEED]     admissions, placements, releases and listings on a network of fourteen nodes
+# usage: compare.sh [LINES] [SEED]     admissions, placements, releases, listings and drills on a network of fourteen nodes
 set -eu
 lines=${1:-1000}
 seed=${2:-1}
@@ -17,6 +17,7 @@ draw = random.Random(seed)
 words = [line.split() for line in open(net)]
 nodes = [w[1] for w in words if w[0] == "node"]
 fibres = [w[1:4] for w in words if w[0] == "fibre"]
+groups = [w[1] for w in words if w[0] == "group"]
 for i in range(1, lines + 1):
     kind = draw.randrange(100)
     src, dst = draw.sample(nodes, 2)
@@ -34,6 +35,8 @@ for i in range(1, lines + 1):
         print(f"map {draw.choice(fibres)[0]}")
     elif kind < 98:
         print(f"routes {src} {dst}")
+    elif kind < 99:
+        print(f"drill {draw.choice(groups + [fibre[0] for fibre in fibres])}")
     else:
         print("stats")
 print("list")

@@ -3,8 +3,8 @@
 
 usage: plain.py NET COMMANDS
 
-It takes an accepted network and lines of the grammar; `push`, `make`, `finish`, `back`, `refit`, `compact` and
-`drill` are answered `later`, and so is `report`.
+It takes an accepted network and lines of the grammar; `push`, `make`, `finish`, `back`, `refit` and `compact` are
+answered `later`, and so is `report`.
 """
 import sys
 from itertools import count
@@ -259,6 +259,13 @@ class Planner:
         lines.sort(key=lambda line: line[0])
         return "\n".join([f"map {fibre} {len(lines)}"] + [text for _, text in lines])
 
+    def drill(self, group):
+        if group not in self.net.by_name and group not in [name for name, _ in self.net.groups]:
+            return f"unknown {group}"
+        hits = [(name, s["back"]) for name, s in self.live.items() if group in self.net.risk(s["work"][0])]
+        lines = [f"hit {name} 1 " + (f"b {self.path_text(back)}" if back else "dark") for name, back in hits]
+        return "\n".join([f"drill {group} {len(hits)}"] + lines)
+
     def stats(self):
         lit = held = 0
         for fibre in self.net.by_name:
@@ -273,7 +280,7 @@ class Planner:
 
     def answer(self, line):
         word, *rest = line.split(" ")
-        if word in ("place", "admit", "release", "show", "list", "routes", "map", "stats"):
+        if word in ("place", "admit", "release", "show", "list", "routes", "map", "stats", "drill"):
             return getattr(self, word)(*rest)
         return "bye" if word == "quit" else "later"
 
