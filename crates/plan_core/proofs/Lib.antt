@@ -11,3 +11,4 @@ pub mod AdmitSteps
 pub mod ShownLaws
 pub mod ReplyLaws
 pub mod DrillSteps
+pub mod MadeLaws

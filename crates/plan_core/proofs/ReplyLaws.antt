@@ -1,21 +1,23 @@
 -- What a command that is built says can be told: of the state, or of the one that follows the change.
-use Rattle.std.proofs.Common.{◌≡◌, refl, sym, ◌∙◌, ap, subst, ℕ, Bool, true, false, cond, [], ◌∷◌, ◌++◌, map, Option, Some, None}
+use Rattle.std.proofs.Common.{◌≡◌, refl, sym, ◌∙◌, ap, subst, ℕ, ℤ, Bool, true, false, cond, not, [], ◌∷◌, ◌++◌, map, Option, Some, None}
 use Rattle.std.specs.Prelude.{is_some}
 use Rattle.std.specs.Option.{option_map, option_or, option_and_then}
 use Rattle.std.proofs.lemmas.List.Folds.{find-append}
+use Rattle.eon_model.specs.declared.Class.{Class}
 use Rattle.eon_model.specs.declared.Part.TheVariants.{Work, Backup}
 use Rattle.eon_model.specs.Names.{Name, same_name, least_name}
 use Rattle.eon_model.specs.Sets.{common_members}
 use Rattle.eon_model.specs.Network.{Network, fibre_of, risk_number_of, risk_name}
 use Rattle.eon_model.specs.Route.{Route}
-use Rattle.eon_model.specs.Services.{Leg, Service, State, service_of}
-use Rattle.eon_model.specs.Legal.{Setup, Legal}
+use Rattle.eon_model.specs.Services.{Path, Leg, Service, State, is_moving, service_of}
+use Rattle.eon_model.specs.Legal.{Setup, Legal, is_dual}
+use Rattle.eon_model.specs.Changes.{change_service, with_next}
 use Rattle.eon_model.specs.NetworkText.{is_setup}
 use Rattle.eon_model.specs.Commands.{Demand, PathWords, Command}
 use Rattle.eon_model.specs.Replies.{Reply}
 use Rattle.eon_model.specs.Events as events
 use Rattle.eon_model.specs.Listings.{map_text, hits_of}
-use Rattle.eon_model.specs.Step.{Outcome, Say, Change, or_else, ◌when◌, or_blocked, AskedPath, asked, is_node, unknown_in, enters, for_service, for_number, node_numbered, place, admit, routes, outcome_of}
+use Rattle.eon_model.specs.Step.{Outcome, Say, Change, or_else, ◌when◌, or_blocked, AskedPath, asked, is_node, unknown_in, enters, for_service, for_number, node_numbered, place, admit, push, make, refit, refit_backup, routes, outcome_of}
 use Rattle.eon_model.proofs.NameLaws.{names_equal}
 use Rattle.eon_model.proofs.ChangeLaws.{otherwise-Change, tried}
 use Rattle.reply_text.specs.Tellable.{can_tell}
@@ -108,6 +110,54 @@ show-said : (setup : Setup) (state : State) (found : Option Service) (name : Nam
 show-said setup state None name r e h = plain-say setup state (Reply.Unknown name) r refl h
 show-said setup state (Some s) name r e h = plain-say setup state (Reply.Show name) r (ap is_some e) h
 
+-- of the service of a name, whatever is said of a service
+service-said : (setup : Setup) (state : State) (found : Option Service) (name : Name) (go : Service → Outcome) (r : Reply) →
+    ((s : Service) → go s ≡ Say r → can_tell setup state r ≡ true) → for_service found name go ≡ Say r →
+    can_tell setup state r ≡ true
+service-said setup state None name go r more h = plain-say setup state (Reply.Unknown name) r refl h
+service-said setup state (Some s) name go r more h = more s h
+
+push-said : (setup : Setup) (state : State) (name : Name) (n : ℤ) (r : Reply) → push setup state name n ≡ Say r →
+    can_tell setup state r ≡ true
+push-said setup state name n r =
+    service-said setup state (service_of state name) name _ r (λ s.
+    plain-else setup state _ _ r (plain-when setup state (Reply.Busy name) _ refl)
+    (plain-else setup state _ _ r (plain-when setup state (Reply.Same name) _ refl)
+    (plain-else setup state _ _ r (plain-when setup state (Reply.Band Work) _ refl)
+    (plain-else setup state _ _ r (plain-map setup state Reply.Clash _ (λ x. refl))
+    (λ h. absurd (not-said _ _ r h))))))
+
+ended-said : (setup : Setup) (state : State) (name : Name) (e : events.Event) (q r : Reply) →
+    for_service (service_of state name) name (λ s. or_else (Reply.Idle name when not (is_moving s)) (Change e q)) ≡ Say r →
+    can_tell setup state r ≡ true
+ended-said setup state name e q r =
+    service-said setup state (service_of state name) name _ r (λ s.
+    plain-else setup state _ _ r (plain-when setup state (Reply.Idle name) _ refl) (λ h. absurd (not-said e q r h)))
+
+make-said : (setup : Setup) (state : State) (name : Name) (avoid : Option Name) (r : Reply) →
+    make setup state name avoid ≡ Say r → can_tell setup state r ≡ true
+make-said setup state name avoid r =
+    service-said setup state (service_of state name) name _ r (λ s.
+    plain-else setup state _ _ r (plain-map setup state Reply.Unknown _ (λ x. refl))
+    (plain-else setup state _ _ r (plain-when setup state (Reply.Busy name) _ refl)
+    (plain-else setup state _ _ r (plain-when setup state Reply.NoRoute _ refl)
+    (tried-said setup state _ _ (λ l. events.Event.Make name s.class (events.leg_text_of l)) (Reply.Made name) r))))
+
+moved-said : (setup : Setup) (state : State) (name : Name) (class : Class) (back : Option Path) (r : Reply) →
+    refit_backup setup state name class back ≡ Say r → can_tell setup state r ≡ true
+moved-said setup state name class None r h = plain-say setup state (Reply.Bare name) r refl h
+moved-said setup state name class (Some b) r h =
+    plain-else setup state _ _ r (plain-when setup state (Reply.Dual name) (is_dual class) refl)
+    (plain-else setup state _ _ r (plain-when setup state (Reply.Refitted name _ _) _ refl)
+    (λ k. absurd (not-said _ _ r k))) h
+
+refit-said : (setup : Setup) (state : State) (name : Name) (r : Reply) → refit setup state name ≡ Say r →
+    can_tell setup state r ≡ true
+refit-said setup state name r =
+    service-said setup state (service_of state name) name _ r (λ s.
+    plain-else setup state _ _ r (plain-when setup state (Reply.Busy name) _ refl)
+    (moved-said setup state name s.class s.leg.back r))
+
 map-said : (setup : Setup) (state : State) (number : Option ℕ) (name : Name) (r : Reply) →
     for_number number name (λ i. Say (Reply.Map (map_text setup state i))) ≡ Say r → can_tell setup state r ≡ true
 map-said setup state None name r h = plain-say setup state (Reply.Unknown name) r refl h
@@ -133,11 +183,13 @@ outcome-said setup state (Command.Place d w b) r ok legal built h = place-said s
 outcome-said setup state (Command.Admit d) r ok legal built h = admit-said setup state d r h
 outcome-said setup state (Command.Release name) r ok legal built h =
     release-said setup state (service_of state name) name r h
-outcome-said setup state (Command.Push name n) r ok legal built h = cc
-outcome-said setup state (Command.Make name avoid) r ok legal built h = cc
-outcome-said setup state (Command.Finish name) r ok legal built h = cc
-outcome-said setup state (Command.Back name) r ok legal built h = cc
-outcome-said setup state (Command.Refit name) r ok legal built h = cc
+outcome-said setup state (Command.Push name n) r ok legal built h = push-said setup state name n r h
+outcome-said setup state (Command.Make name avoid) r ok legal built h = make-said setup state name avoid r h
+outcome-said setup state (Command.Finish name) r ok legal built h =
+    ended-said setup state name (events.Event.Finish name) (Reply.Finished name) r h
+outcome-said setup state (Command.Back name) r ok legal built h =
+    ended-said setup state name (events.Event.Back name) (Reply.Backed name) r h
+outcome-said setup state (Command.Refit name) r ok legal built h = refit-said setup state name r h
 outcome-said setup state Command.Compact r ok legal built h = cc
 outcome-said setup state (Command.Drill g) r ok legal built h =
     drill-said setup state (risk_number_of setup.network g) g r ok legal h
@@ -208,6 +260,90 @@ release-changed setup now None name e r h = cc
 release-changed setup now (Some s) name e r h =
     let same : Reply.Released name ≡ r = cc in subst (λ (x : Reply). can_tell setup now x ≡ true) same refl
 
+-- what can be told of each state can be told of the one after the change
+plain-change : (setup : Setup) (now : State) (d e : events.Event) (q r : Reply) → can_tell setup now q ≡ true →
+    Change d q ≡ Change e r → can_tell setup now r ≡ true
+plain-change setup now d e q r tells h =
+    let same : q ≡ r = cc in subst (λ (x : Reply). can_tell setup now x ≡ true) same tells
+
+service-changed : (setup : Setup) (now : State) (found : Option Service) (name : Name) (go : Service → Outcome)
+    (e : events.Event) (r : Reply) → ((s : Service) → found ≡ Some s → go s ≡ Change e r → can_tell setup now r ≡ true) →
+    for_service found name go ≡ Change e r → can_tell setup now r ≡ true
+service-changed setup now None name go e r more h = cc
+service-changed setup now (Some s) name go e r more h = more s refl h
+
+push-changed : (setup : Setup) (state now : State) (name : Name) (n : ℤ) (e : events.Event) (r : Reply) →
+    push setup state name n ≡ Change e r → can_tell setup now r ≡ true
+push-changed setup state now name n e r =
+    service-changed setup now (service_of state name) name _ e r (λ s is h.
+    let p1 = otherwise-Change _ _ e r h in
+    let p2 = otherwise-Change _ _ e r p1.1 in
+    let p3 = otherwise-Change _ _ e r p2.1 in
+    let p4 = otherwise-Change _ _ e r p3.1 in
+    plain-change setup now (events.Event.Push name n) e _ r refl p4.1)
+
+ended-changed : (setup : Setup) (now : State) (found : Option Service) (name : Name) (d e : events.Event) (q r : Reply) →
+    can_tell setup now q ≡ true →
+    for_service found name (λ s. or_else (Reply.Idle name when not (is_moving s)) (Change d q)) ≡ Change e r →
+    can_tell setup now r ≡ true
+ended-changed setup now found name d e q r tells =
+    service-changed setup now found name _ e r (λ s is h.
+    plain-change setup now d e q r tells (otherwise-Change _ _ e r h).1)
+
+-- the service has its second leg beside the old one
+next-there : (state : State) (name : Name) (l : Leg) (s : Service) → service_of state name ≡ Some s →
+    is_some (option_and_then (λ (v : Service). v.next) (service_of (change_service name (with_next l) state) name)) ≡ true
+next-there [] name l s h = cc
+next-there (x ∷ state) name l s h = by (same_name x.name name) refl (next-there state name l s) h
+  where
+    by : (b : Bool) → same_name x.name name ≡ b →
+        (service_of state name ≡ Some s → is_some (option_and_then (λ (v : Service). v.next)
+        (service_of (change_service name (with_next l) state) name)) ≡ true) →
+        cond b (Some x) (service_of state name) ≡ Some s →
+        is_some (option_and_then (λ (v : Service). v.next)
+        (cond (same_name (cond b (with_next l x) x).name name) (Some (cond b (with_next l x) x))
+        (service_of (change_service name (with_next l) state) name))) ≡ true
+    by true e more k = ap (λ c. is_some (option_and_then (λ (v : Service). v.next)
+        (cond c (Some (with_next l x)) (service_of (change_service name (with_next l) state) name)))) e
+    by false e more k = ap (λ c. is_some (option_and_then (λ (v : Service). v.next)
+        (cond c (Some x) (service_of (change_service name (with_next l) state) name)))) e
+        ∙ more k
+
+made-tells : (setup : Setup) (state : State) (name : Name) (class : Class) (text : events.LegText) (s : Service)
+    (e : events.Event) (r : Reply) → service_of state name ≡ Some s →
+    Change (events.Event.Make name class text) (Reply.Made name) ≡ Change e r →
+    can_tell setup (events.apply setup.network state e) r ≡ true
+made-tells setup state name class text s e r found h =
+    let event-is : events.Event.Make name class text ≡ e = cc in
+    let reply-is : Reply.Made name ≡ r = cc in
+    subst (λ (x : events.Event). can_tell setup (events.apply setup.network state x) r ≡ true) event-is
+    (subst (λ (x : Reply). can_tell setup (change_service name (with_next (events.leg_told setup.network text)) state) x ≡ true)
+    reply-is (next-there state name (events.leg_told setup.network text) s found))
+
+make-changed : (setup : Setup) (state : State) (name : Name) (avoid : Option Name) (e : events.Event) (r : Reply) →
+    make setup state name avoid ≡ Change e r → can_tell setup (events.apply setup.network state e) r ≡ true
+make-changed setup state name avoid e r =
+    service-changed setup (events.apply setup.network state e) (service_of state name) name _ e r (λ s is h.
+    let p1 = otherwise-Change _ _ e r h in
+    let p2 = otherwise-Change _ _ e r p1.1 in
+    let p3 = otherwise-Change _ _ e r p2.1 in
+    let t = tried _ _ (λ l. Change (events.Event.Make name s.class (events.leg_text_of l)) (Reply.Made name)) e r p3.1 in
+    made-tells setup state name s.class (events.leg_text_of t.0) s e r is t.2)
+
+moved-changed : (setup : Setup) (state now : State) (name : Name) (class : Class) (back : Option Path) (e : events.Event)
+    (r : Reply) → refit_backup setup state name class back ≡ Change e r → can_tell setup now r ≡ true
+moved-changed setup state now name class None e r h = cc
+moved-changed setup state now name class (Some b) e r h =
+    let p1 = otherwise-Change _ _ e r h in
+    let p2 = otherwise-Change _ _ e r p1.1 in
+    plain-change setup now _ e _ r refl p2.1
+
+refit-changed : (setup : Setup) (state now : State) (name : Name) (e : events.Event) (r : Reply) →
+    refit setup state name ≡ Change e r → can_tell setup now r ≡ true
+refit-changed setup state now name e r =
+    service-changed setup now (service_of state name) name _ e r (λ s is h.
+    moved-changed setup state now name s.class s.leg.back e r (otherwise-Change _ _ e r h).1)
+
 said-alone : (found : Option Service) (name : Name) (q : Reply) (e : events.Event) (r : Reply) →
     for_service found name (λ s. Say q) ≡ Change e r → ⊥
 said-alone None name q e r h = cc
@@ -229,11 +365,17 @@ outcome-changed setup state (Command.Place d w b) e r built h = place-changed se
 outcome-changed setup state (Command.Admit d) e r built h = admit-changed setup state d e r h
 outcome-changed setup state (Command.Release name) e r built h =
     release-changed setup (events.apply setup.network state e) (service_of state name) name e r h
-outcome-changed setup state (Command.Push name n) e r built h = cc
-outcome-changed setup state (Command.Make name avoid) e r built h = cc
-outcome-changed setup state (Command.Finish name) e r built h = cc
-outcome-changed setup state (Command.Back name) e r built h = cc
-outcome-changed setup state (Command.Refit name) e r built h = cc
+outcome-changed setup state (Command.Push name n) e r built h =
+    push-changed setup state (events.apply setup.network state e) name n e r h
+outcome-changed setup state (Command.Make name avoid) e r built h = make-changed setup state name avoid e r h
+outcome-changed setup state (Command.Finish name) e r built h =
+    ended-changed setup (events.apply setup.network state e) (service_of state name) name (events.Event.Finish name) e
+    (Reply.Finished name) r refl h
+outcome-changed setup state (Command.Back name) e r built h =
+    ended-changed setup (events.apply setup.network state e) (service_of state name) name (events.Event.Back name) e
+    (Reply.Backed name) r refl h
+outcome-changed setup state (Command.Refit name) e r built h =
+    refit-changed setup state (events.apply setup.network state e) name e r h
 outcome-changed setup state Command.Compact e r built h = cc
 outcome-changed setup state (Command.Drill g) e r built h =
     absurd (said-number (risk_number_of setup.network g) g (λ i. Reply.Drill g (hits_of i state)) e r h)

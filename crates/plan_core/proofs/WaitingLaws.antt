@@ -13,8 +13,8 @@ use Rattle.eon_model.specs.Events.{apply}
 use Rattle.eon_model.specs.Replay.{is_asked, can_follow}
 use Rattle.eon_model.specs.Step as step
 use Rattle.eon_model.specs.Answers.{Gives}
-use Rattle.eon_model.specs.EventText.{is_event}
-use Rattle.eon_model.proofs.EventRangeLaws.{outcome-is_event}
+use Rattle.eon_model.specs.EventText.{is_event, is_state}
+use Rattle.eon_model.proofs.EventRangeLaws.{outcome-is_event, apply-is_state}
 use Rattle.eon_model.proofs.FollowLaws.{outcome-can_follow}
 use Rattle.plan_core.specs.declared.decision.Decision.{Decision}
 use Rattle.plan_core.specs.declared.decision.Decision.TheVariants.{Say, Change}
@@ -48,22 +48,24 @@ waits-more : (setup : Setup) (state : State) (spare room : ℕ) (q : Prepared) (
     IfSome w (CanBeMade setup state spare q) → IfSome w (CanBeMade setup state room q)
 waits-more setup state spare room q None low h = tt
 waits-more setup state spare room q (Some e) low h =
-    record { follows = h.follows; is_needed = h.is_needed; room = room-more spare room q low h.room }
+    record { in_range = h.in_range; follows = h.follows; is_needed = h.is_needed; room = room-more spare room q low h.room }
 
 pub still-IsKept : (setup : Setup) (before after : State) (spare room : ℕ) (q : Prepared) (w : Option Event) →
     IsKept setup before spare q w → after ≡ before → spare ≤ room → IsKept setup after room q w
 still-IsKept setup before after spare room q w kept same low = record {
   in_range = kept.in_range;
+  named = rw same kept.named;
   legal = rw same kept.legal;
   waits = rw same (waits-more setup before spare room q w low kept.waits);
 }
 
 waits-held : (setup : Setup) (state : State) (room : ℕ) (d : Decision) (q : Prepared) →
+    IfSome (event_of d) (λ e. is_event (event_told e) ≡ true) →
     IfSome (event_of d) (λ e. can_follow setup state (event_told e) ≡ true) → IsPrepared setup.network d q →
     HasRoom room q → IfSome (event_of d) (CanBeMade setup state room q)
-waits-held setup state room (Say r) q follows for enough = tt
-waits-held setup state room (Change e r) q follows for enough =
-    record { follows = follows; is_needed = for; room = enough }
+waits-held setup state room (Say r) q range follows for enough = tt
+waits-held setup state room (Change e r) q range follows for enough =
+    record { in_range = range; follows = follows; is_needed = for; room = enough }
 
 -- the machine is kept where the list is as before and there is room for what waits now
 pub held-IsKept : (setup : Setup) (before after : State) (spare room : ℕ) (q : Prepared) (w waiting : Option Event)
@@ -71,8 +73,9 @@ pub held-IsKept : (setup : Setup) (before after : State) (spare room : ℕ) (q :
     HasRoom room p.prepared → waiting ≡ event_of p.decision → IsKept setup after room p.prepared waiting
 held-IsKept setup before after spare room q w waiting p kept same can enough is = record {
   in_range = kept.in_range;
+  named = rw same kept.named;
   legal = rw same kept.legal;
-  waits = rw (same, is) (waits-held setup before room p.decision p.prepared can.follows can.is_prepared enough);
+  waits = rw (same, is) (waits-held setup before room p.decision p.prepared can.in_range can.follows can.is_prepared enough);
 }
 
 -- what waits can be made
@@ -80,6 +83,7 @@ pub waiting-IsKept : (setup : Setup) (state : State) (spare : ℕ) (q p : Prepar
     IsKept setup state spare q w → w ≡ Some e → p ≡ q → IsKept setup state spare p (Some e)
 waiting-IsKept setup state spare q p w e kept is same = record {
   in_range = kept.in_range;
+  named = kept.named;
   legal = kept.legal;
   waits = rw same (subst (λ (o : Option Event). IfSome o (CanBeMade setup state spare q)) is kept.waits);
 }
@@ -98,6 +102,8 @@ pub applied-IsKept : (setup : Setup) (before after : State) (spare room : ℕ) (
     IsKept setup after room now waiting
 applied-IsKept setup before after spare room q now waiting e kept made none = record {
   in_range = kept.in_range;
+  named = subst (λ (l : State). is_state l ≡ true) (sym (made-applied setup before after spare q e kept made))
+      (apply-is_state setup.network before (event_told e) kept.waits.in_range kept.named);
   legal = subst (λ (l : State). Legal setup l) (sym (made-applied setup before after spare q e kept made))
       (after-Legal setup before spare q e kept.waits);
   waits = rw none tt;
@@ -120,12 +126,6 @@ follows-by setup state c (Say r) ok w legal h = tt
 follows-by setup state c (Change e r) ok w legal h =
     outcome-can_follow setup state c (event_told e) _ ok w legal (sym h)
 
-pub proposed-CanBeHeld : (setup : Setup) (state : State) (c : Command) (p : Proposal) → is_setup setup ≡ true →
-    is_command c ≡ true → Legal setup state → outcome_told p.decision ≡ step.outcome_of setup state c →
-    IsPrepared setup.network p.decision p.prepared → CanBeHeld setup state p
-proposed-CanBeHeld setup state c p ok w legal is for =
-    record { follows = follows-by setup state c p.decision ok w legal is; is_prepared = for }
-
 -- and is in range
 pub decided-in_range : (setup : Setup) (state : State) (c : Command) (d : Decision) → is_setup setup ≡ true →
     is_command c ≡ true → Legal setup state → outcome_told d ≡ step.outcome_of setup state c →
@@ -133,6 +133,12 @@ pub decided-in_range : (setup : Setup) (state : State) (c : Command) (d : Decisi
 decided-in_range setup state c (Say r) ok w legal h = tt
 decided-in_range setup state c (Change e r) ok w legal h =
     outcome-is_event setup state c (event_told e) _ ok legal w (sym h)
+
+pub proposed-CanBeHeld : (setup : Setup) (state : State) (c : Command) (p : Proposal) → is_setup setup ≡ true →
+    is_command c ≡ true → Legal setup state → outcome_told p.decision ≡ step.outcome_of setup state c →
+    IsPrepared setup.network p.decision p.prepared → CanBeHeld setup state p
+proposed-CanBeHeld setup state c p ok w legal is for =
+    record { in_range = decided-in_range setup state c p.decision ok w legal is; follows = follows-by setup state c p.decision ok w legal is; is_prepared = for }
 
 -- what holds of the decision that was proposed holds of the one that is answered
 pub of-held : (P : Decision → Type 0) (r : Result Decision AllocError) (d : Decision) → IfOk r (λ x. x ≡ d) → P d →

@@ -7,6 +7,11 @@ abbrev pub is_built : Command → Bool
 is_built (Command.Place d work back) = true
 is_built (Command.Admit d) = true
 is_built (Command.Release name) = true
+is_built (Command.Push name n) = true
+is_built (Command.Make name avoid) = true
+is_built (Command.Finish name) = true
+is_built (Command.Back name) = true
+is_built (Command.Refit name) = true
 is_built (Command.Show name) = true
 is_built Command.List = true
 is_built (Command.Map fibre) = true

@@ -1,11 +1,12 @@
 -- What a change that was decided needs, and when it can be made.
-use Rattle.std.specs.Prelude.{◌≡◌, ℕ, ◌≤◌, IsTrue, IfSome}
+use Rattle.std.specs.Prelude.{◌≡◌, ℕ, ◌≤◌, ⊤, IsTrue, IfSome}
 use Rattle.eon_model.specs.Network.{Network}
 use Rattle.eon_model.specs.Services.{Path, Leg, State}
 use Rattle.eon_model.specs.Legal.{Setup}
 use Rattle.eon_model.specs.Events as events
 use Rattle.eon_model.specs.Events.{leg_told, service_told}
 use Rattle.eon_model.specs.Step.{Outcome, Change}
+use Rattle.eon_model.specs.EventText.{is_event}
 use Rattle.eon_model.specs.Replay.{can_follow}
 use Rattle.leg_state.specs.Parts.{AreFibreNumbers}
 use Rattle.journal_record.specs.declared.event.Event.{Event}
@@ -46,13 +47,20 @@ HasRoom spare prepared.Nothing = Unit {0}
 HasRoom spare (prepared.Service s) = 1 ≤ spare
 HasRoom spare (prepared.Leg l) = Unit {0}
 
--- the change can follow the state, and what it needs is there, with room for it
+-- the change that a command comes to, if there is one, is in range
+abbrev pub IfChange : Outcome → Type 0
+IfChange (Change e reply) = IsTrue (is_event e)
+IfChange _ = ⊤
+
+-- the change is in range and can follow the state, and what it needs is there, with room for it
 pub record CanBeMade (setup : Setup) (state : State) (spare : ℕ) (q : Prepared) (e : Event) : Type 0 where
+  pub in_range : IsTrue (is_event (event_told e))
   pub follows : IsTrue (can_follow setup state (event_told e))
   pub is_needed : q ≡ needed setup.network (event_told e)
   pub room : HasRoom spare q
 
--- the change, if there is one, can follow the state, and what it needs is there
+-- the change, if there is one, is in range and can follow the state, and what it needs is there
 pub record CanBeHeld (setup : Setup) (state : State) (p : Proposal) : Type 0 where
+  pub in_range : IfSome (event_of p.decision) (λ e. IsTrue (is_event (event_told e)))
   pub follows : IfSome (event_of p.decision) (λ e. IsTrue (can_follow setup state (event_told e)))
   pub is_prepared : IsPrepared setup.network p.decision p.prepared

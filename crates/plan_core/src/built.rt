@@ -13,6 +13,11 @@ pub fn is_built(command: &Command) -> bool
         Command::Place { .. }
         | Command::Admit { .. }
         | Command::Release { .. }
+        | Command::Push { .. }
+        | Command::Make { .. }
+        | Command::Finish { .. }
+        | Command::Back { .. }
+        | Command::Refit { .. }
         | Command::Show { .. }
         | Command::List
         | Command::Map { .. }

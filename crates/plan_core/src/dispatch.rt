@@ -3,6 +3,7 @@ ghost use Rattle.std.specs.Prelude.{◌≡◌, false, IsTrue, IsOk, IfOk};
 ghost use Rattle.eon_model.specs.Network.{Network};
 ghost use Rattle.eon_model.specs.Legal.{Legal};
 ghost use Rattle.eon_model.specs.NetworkText.{is_setup};
+ghost use Rattle.eon_model.specs.EventText.{is_state};
 ghost use Rattle.eon_model.specs.CommandText.{is_command};
 ghost use Rattle.eon_model.specs.Step as step;
 ghost use Rattle.eon_model.specs.Replies.{Reply as said};
@@ -16,6 +17,7 @@ ghost use Rattle.plan_core.specs.Waiting.{IsPrepared};
 use crate::admit::admit;
 use crate::demand::Demand;
 use crate::listings::{drill, map, report, stats};
+use crate::moves::{back, finish, push, refit, second_leg};
 use crate::place::place;
 use crate::proposal::{Prepared, Proposal, change, say};
 use crate::routes::routes_between;
@@ -74,6 +76,7 @@ pub fn proposal_for(
     command: &Command,
 ) -> Result<Proposal, AllocError>
     requires setup { IsTrue (is_setup setup.now) }
+    requires named { IsTrue (is_state services.now.list) }
     requires legal { Legal setup.now services.now.list }
     requires in_range { IsTrue (is_command (told command.now)) }
     requires built { IsTrue (is_built (told command.now)) }
@@ -107,6 +110,11 @@ pub fn proposal_for(
             admit(alloc, setup, services, &demand)
         }
         Command::Release { name } => Ok(release(services, name)),
+        Command::Push { name, n } => Ok(push(setup, services, name, *n)),
+        Command::Make { name, avoid } => second_leg(alloc, setup, services, name, avoid),
+        Command::Finish { name } => Ok(finish(services, name)),
+        Command::Back { name } => Ok(back(services, name)),
+        Command::Refit { name } => Ok(refit(setup, services, name)),
         Command::Show { name } => Ok(say(show(services, name))),
         Command::List => Ok(say(Reply::List)),
         Command::Map { fibre } => Ok(say(map(alloc, setup, services, fibre)?)),

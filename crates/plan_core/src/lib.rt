@@ -13,6 +13,7 @@ mod event;
 mod listings;
 mod live;
 pub mod machine;
+mod moves;
 mod path_faults;
 mod place;
 mod proposal;

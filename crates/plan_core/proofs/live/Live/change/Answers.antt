@@ -3,10 +3,21 @@ use Rattle.eon_model.specs.Changes.{change_service, with_leg, drifting_to, backu
 use Rattle.eon_model.specs.Events.{apply}
 use Rattle.eon_model.specs.Replay.{can_follow}
 use Rattle.journal_record.specs.declared.event.Event.{Event}
-use Rattle.journal_record.specs.Told.{leg_told, event_told}
+use Rattle.journal_record.specs.Told.{enter_told, leg_told, event_told}
 use Rattle.leg_state.specs.Asks.{has_service, may_drift, may_refit}
+use Rattle.plan_core.specs.Waiting.{needed}
+use Rattle.plan_core.proofs.MadeLaws.{entering-fresh}
 use Rattle.plan_core.proofs.MoveLaws.{push-drifts, finish-finishes, back-goes_back, make-makes, refit-refits}
 use Rattle.plan_core.proofs.live.Live.change.Goals as goal
+
+pub enter-requires-clause-fresh : goal.enter-requires-clause-fresh
+enter-requires-clause-fresh c =
+    let kept = c.requires.1 in
+    entering-fresh c.requires.0 c.args.self.now.services.list (enter_told c.in-Enter.service) c.in-Service.service
+    c.args.prepared c.in-Service.is
+    (kept.waits.is_needed ∙ ap (λ (e : Event). needed c.requires.0.network (event_told e)) c.in-Enter.is)
+    (subst (λ (e : Event). can_follow c.requires.0 c.args.self.now.services.list (event_told e) ≡ true) c.in-Enter.is
+    kept.waits.follows)
 
 pub set_to-requires : goal.set_to-requires
 set_to-requires c =
