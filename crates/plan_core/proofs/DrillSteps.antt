@@ -1,6 +1,6 @@
 -- What a drill lists can be told, and the group of a name has a number in range.
-use Rattle.std.proofs.Common.{◌≡◌, refl, sym, ◌∙◌, ap, subst, ℕ, zero, suc, ◌+◌, ◌≤◌, ◌<◌, arith, Bool, true, false, cond, [], ◌∷◌, ◌++◌, length, List, Option, Some, None}
-use Rattle.std.specs.Prelude.{IfSome, is_some, nat_lt, slice_get}
+use Rattle.std.proofs.Common.{◌≡◌, refl, ◌∙◌, ap, subst, ℕ, suc, ◌+◌, ◌≤◌, ◌<◌, arith, Bool, true, false, cond, [], ◌∷◌, ◌++◌, length, List, Option, Some, None}
+use Rattle.std.specs.Prelude.{IfSome, is_some, slice_get}
 use Rattle.std.specs.Option.{option_map, option_or, option_to_list, unwrap_or}
 use Rattle.std.specs.List.{list_all, flat_map}
 use Rattle.std.proofs.lemmas.Bool.{and_from}
