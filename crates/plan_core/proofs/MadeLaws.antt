@@ -1,13 +1,13 @@
 -- What a make asks of the services, and its change, if it makes one.
-use Rattle.std.proofs.Common.{◌≡◌, refl, sym, ◌∙◌, ap, subst, ℤ, true, false, ◌&&◌, length, Option, Some, None, nat_lt}
+use Rattle.std.proofs.Common.{◌≡◌, refl, sym, ◌∙◌, ap, subst, ℤ, true, false, length, Option, Some, None}
 use Rattle.std.specs.Prelude.{IfSome}
 use Rattle.std.specs.Ordering.{int_eq}
-use Rattle.std.proofs.lemmas.Bool.{and_parts, and_from, lt-ltb}
-use Rattle.eon_model.specs.Names.{Name, is_name, same_name}
+use Rattle.std.proofs.lemmas.Bool.{and_from, lt-ltb}
+use Rattle.eon_model.specs.Names.{Name, same_name}
 use Rattle.eon_model.specs.Services.{Leg, Service, State, service_of}
 use Rattle.eon_model.specs.Legal.{Setup, Legal}
 use Rattle.eon_model.specs.NetworkText.{is_setup}
-use Rattle.eon_model.specs.CommandText.{is_rate, is_command}
+use Rattle.eon_model.specs.CommandText.{is_command}
 use Rattle.eon_model.specs.Commands.{Command}
 use Rattle.eon_model.specs.EventText.{is_service, is_state, is_event}
 use Rattle.eon_model.specs.PlanTextLaws.{is_listed}
