@@ -2,7 +2,7 @@
 -- in which a state takes them.
 use Rattle.std.specs.Prelude.{◌≡◌, ℕ, ◌+◌, ◌<◌, ℤ, ◌≤ℤ◌, false, IsTrue, List, ◌∷◌, ◌++◌, length, map, Some}
 use Rattle.std.specs.List.{AllByRecursion, list_all}
-use Rattle.eon_model.specs.Grid.{Band, is_band, span_of, lies_in_band}
+use Rattle.eon_model.specs.Grid.{Band, span_of, lies_in_band}
 use Rattle.eon_model.specs.Names.{Name}
 use Rattle.eon_model.specs.Lists.{numbers_differ}
 use Rattle.eon_model.specs.Network.{AreFibres}
@@ -17,7 +17,7 @@ use Rattle.eon_model.specs.NetworkText.{is_setup}
 use Rattle.eon_model.specs.Candidates.{SizedRoute}
 use Rattle.eon_model.specs.Rows.{Taken, Reserved, Rows, counts_among, may_stand_beside, with_lit, without_lit, with_held, without_held, with_reserved, without_reserved, rows_with, changed_by, is_unshared}
 use Rattle.eon_model.specs.FirstInRows.{least_free, least_channel}
-use Rattle.eon_model.specs.Occupied.{Reserve, reserves, taken_of, reserved_of, rows_of, counts_of, holders_of}
+use Rattle.eon_model.specs.Occupied.{reserves, taken_of, reserved_of, rows_of, counts_of, holders_of}
 use Rattle.eon_model.specs.Turnover.{turnover}
 
 -- a unit or more

@@ -1,7 +1,7 @@
 -- Rows of units, fibre by fibre, and counts of the backups that share a unit: what they tell of a change, whatever they
 -- were made of.
 use Rattle.std.specs.Prelude.{◌≡◌, ℕ, ◌+◌, ◌-◌, ℤ, ◌<ℤ◌, Bool, false, ◌&&◌, ◌||◌, not, ◌==◌, int_le, IsTrue, List, [], ◌∷◌, filter, find, count_by, reverse, Option, Some, None, if◌then◌else◌}
-use Rattle.std.specs.List.{list_all, list_any}
+use Rattle.std.specs.List.{list_all}
 use Rattle.eon_model.specs.declared.Class.{Class}
 use Rattle.eon_model.specs.Grid.{Band, Units, has_unit, overlaps, span_of, unit_count}
 use Rattle.eon_model.specs.Lists.{has_number, share_number, integers_from}
