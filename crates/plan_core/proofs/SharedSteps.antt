@@ -1,23 +1,20 @@
 -- The least name among the groups that are in two sets, found group by group.
-use Rattle.std.proofs.Common.{◌≡◌, refl, sym, ◌∙◌, ap, subst, inl, inr, ℕ, zero, suc, ◌+◌, ◌<◌, arith, add-one, Bool, true, false, cond, ◌&&◌, not, List, [], ◌∷◌, ◌++◌, map, filter, Some, None}
-use Rattle.std.specs.List.{list_all, list_any, range_with_len}
-use Rattle.std.specs.Ordering.{nat_cmp, is_lt, eq_by_cmp, ordering_reverse}
-use Rattle.std.specs.declared.cmp.Ordering.{Ordering}
-use Rattle.std.specs.declared.cmp.Ordering.TheVariants.{Less, Equal, Greater}
-use Rattle.std.specs.Cmp.{eq_by_cmp_equiv, nat_cmp_total, Equal-is}
+use Rattle.std.proofs.Common.{◌≡◌, refl, sym, ◌∙◌, ap, subst, inl, inr, ℕ, zero, suc, ◌+◌, ◌<◌, arith, add-one, Bool, true, false, cond, ◌&&◌, not, List, [], ◌∷◌, ◌++◌, map, filter, Some}
+use Rattle.std.specs.List.{list_all, range_with_len}
+use Rattle.std.specs.Ordering.{is_lt}
 use Rattle.std.specs.Cmp.Lexicographic.{nat_list_cmp_total}
-use Rattle.std.specs.FinSet.{contains, items, contains-items, nat_cmp-IsAntisymmetric, slice_cmp-IsAntisymmetric}
+use Rattle.std.specs.FinSet.{contains, items, contains-items}
 use Rattle.std.proofs.lemmas.List.{map-append}
 use Rattle.std.proofs.lemmas.List.Elements.{filter-append}
-use Rattle.std.proofs.lemmas.Bool.{and_parts, and_from, not-true, not_from_false, or_cases, or_left, or_right, false≢true, cases_Bool}
+use Rattle.std.proofs.lemmas.Bool.{and_parts, and_from, not-true, not_from_false, false≢true, cases_Bool}
 use Rattle.eon_model.specs.Names.{Name, name_cmp, is_above, least_name}
 use Rattle.eon_model.specs.Sets.{NumberSet, has_member, common_members}
 use Rattle.eon_model.specs.Network.{Network, risk_name}
 use Rattle.eon_model.proofs.OrderLaws.{IsIn}
-use Rattle.eon_model.proofs.ListLaws.{IsIn-filter, IsIn-map, in_range}
-use Rattle.eon_model.proofs.FoundLaws.{found, of-IsIn-map, of-IsIn-filter}
+use Rattle.eon_model.proofs.ListLaws.{IsIn-filter, in_range}
+use Rattle.eon_model.proofs.FoundLaws.{found, of-IsIn-filter}
 use Rattle.eon_model.proofs.Members.{list_all-at, list_all-of}
-use Rattle.eon_model.proofs.LeastNameLaws.{itself, least_name-some}
+use Rattle.eon_model.proofs.LeastNameLaws.{itself}
 use Rattle.eon_model.proofs.SharedNames.{least_name-same, none-empty, neither_above, ties-in, in-ties, same-map}
 use Rattle.eon_model.proofs.NumberLaws.{lt-less}
 use Rattle.plan_core.specs.Placing.{lesser, least_with, shared_below}

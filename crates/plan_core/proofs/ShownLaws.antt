@@ -1,8 +1,8 @@
 -- The first routes within reach can be shown: their fibres are the network's, and a format reaches them.
 use Rattle.std.proofs.Common.{◌≡◌, refl, ◌∙◌, ap, subst, inl, inr, ℕ, zero, suc, ◌≤◌, ◌<◌, max, Bool, true, false, not, cond, List, [], ◌∷◌, length, filter, find, fold, take, Some, None, arith}
-use Rattle.std.specs.Prelude.{nat_le, nat_lt, is_some}
-use Rattle.std.specs.List.{list_all, list_any, AllByRecursion}
-use Rattle.std.proofs.lemmas.Bool.{cases_Bool, and_parts, and_from, both_ways, leb-true, leb-false, le-leb, lt-ltb}
+use Rattle.std.specs.Prelude.{nat_le, is_some}
+use Rattle.std.specs.List.{list_all, list_any}
+use Rattle.std.proofs.lemmas.Bool.{cases_Bool, and_parts, and_from, both_ways, leb-true, leb-false, le-leb}
 use Rattle.eon_model.specs.Formats.{Format, reaching, format_for}
 use Rattle.eon_model.specs.Network.{Network}
 use Rattle.eon_model.specs.Route.{Route, route_of, walks, is_route}

@@ -15,25 +15,14 @@ use net_graph::{Net, Route};
 use reply_text::Reply;
 use std::alloc::{AllocError, Global};
 
-// Puts the number, if there is one, at the end.
-fn put(numbers: &mut Vec<u8>, number: Option<u8>) -> Result<(), AllocError>
-    ensures { OnOk result (numbers.new.items ≡ numbers.old.items ++ option_to_list number) }
-{
-    if let Some(number) = number {
-        numbers.push(number)?;
-    }
-    Ok(())
-}
-
 // The numbers of the fibres of these names.
 fn fibre_numbers(alloc: Global, net: &Net, names: &FibreNames) -> Result<Vec<u8>, AllocError>
     ensures { IfOk result (λ numbers. numbers.items ≡ fibres_numbered net.now names.now) }
 {
-    let mut numbers = Vec::new(alloc);
-    for i in 0..names.len() {
-        put(&mut numbers, net.fibre_of(&names.at(i)))?;
-    }
-    Ok(numbers)
+    names
+        .iter()
+        .filter_map(|name| net.fibre_of(&name))
+        .collect(alloc)
 }
 
 // The path that is asked for; None where its fibres are no route between the ends.

@@ -32,13 +32,7 @@ pub fn unknown_end(net: &Net, src: &Name, dst: &Name) -> Option<Name>
 fn unknown_fibre(net: &Net, names: &FibreNames) -> Option<Name>
     ensures { result ≡ find (λ name. not (is_fibre net.now name)) names.now }
 {
-    for i in 0..names.len() {
-        let name = names.at(i);
-        if net.fibre_of(&name).is_none() {
-            return Some(name);
-        }
-    }
-    None
+    names.iter().find(|name| net.fibre_of(name).is_none())
 }
 
 // The first name that is no fibre, of the working path and then of the backup path.

@@ -1,4 +1,6 @@
 //! One case: what is called, and what has to come out.
+ghost use Rattle.worked_rows.specs.Judged.{IsJudged};
+
 use crate::files::{FileFault, file_of};
 use eon_outside::{FileShelf, MemSink};
 use net_file::{print_net, read_net};
@@ -10,6 +12,9 @@ const ROOM: usize = 1_048_576;
 
 /// The file that holds an empty stream.
 const EMPTY: &str = "nothing";
+
+/// The code of a call whose network is refused.
+const REFUSED: u8 = 2;
 
 /// A call, and what it has to come to.
 #[derive(Drop)]
@@ -51,7 +56,7 @@ fn words_of(alloc: Global, line: &str) -> Result<Vec<String>, AllocError> {
 
 impl Case {
     /// Reads a line: `back FILE`, `refused FILE LINE WORD`, or `CODE FILE` and the words of a call.
-    pub fn read(alloc: Global, line: &str) -> Result<Case, FileFault> {
+    pub(crate) fn read(alloc: Global, line: &str) -> Result<Case, FileFault> {
         let Some((first, rest)) = line.split_once(' ') else {
             return Err(FileFault::Text);
         };
@@ -94,13 +99,14 @@ fn called(rt: &HostRuntime, words: &[String]) -> Result<(u8, Vec<u8>), AllocErro
     Ok((status.code(), out.given().to_vec(alloc)?))
 }
 
-/// The network text as it is printed; nothing where it is refused.
-fn printed(alloc: Global, text: &[u8]) -> Result<Vec<u8>, AllocError> {
+/// The code and the text with which a network text is printed back: code 2 and no text where it is refused.
+fn printed(alloc: Global, text: &[u8]) -> Result<(u8, Vec<u8>), AllocError> {
     let mut out = Vec::new(alloc);
-    if let Ok(setup) = read_net(alloc, text) {
-        print_net(&setup, &mut out)?;
-    }
-    Ok(out)
+    let Ok(setup) = read_net(alloc, text) else {
+        return Ok((REFUSED, out));
+    };
+    print_net(&setup, &mut out)?;
+    Ok((0, out))
 }
 
 /// What `dry` over this network and an empty stream comes to.
@@ -113,32 +119,38 @@ fn dry_over(rt: &HostRuntime, network: &str) -> Result<(u8, Vec<u8>), AllocError
     called(rt, words.as_slice())
 }
 
-/// Tries the case.
-pub fn outcome_of(rt: &HostRuntime, case: &Case) -> Result<Outcome, FileFault> {
-    let (wanted, stored, code, written) = match case {
+/// What came out, beside what was wanted.
+fn judged(wanted: u8, stored: &[u8], code: u8, written: Vec<u8>) -> Outcome
+    ensures { IsJudged wanted stored.now code written.items result }
+{
+    if wanted == code && stored == written.as_slice() {
+        Outcome::AsStored
+    } else {
+        Outcome::Other { code, written }
+    }
+}
+
+/// Tries the case. The files that are compared are read afresh.
+pub(crate) fn outcome_of(rt: &HostRuntime, case: &Case) -> Result<Outcome, FileFault> {
+    let mut shelf = FileShelf::new(rt);
+    match case {
         Case::Call {
             code,
             written,
             words,
         } => {
-            let stored = file_of(rt, written.as_str())?;
+            let stored = file_of(rt.alloc(), &mut shelf, written.as_str())?;
             let (ended, given) = called(rt, words.as_slice())?;
-            (*code, stored, ended, given)
+            Ok(judged(*code, stored.as_slice(), ended, given))
         }
         Case::PrintedBack { name } => {
-            let stored = file_of(rt, name.as_str())?;
-            let given = printed(rt.alloc(), stored.as_slice())?;
-            (0, stored, 0, given)
+            let stored = file_of(rt.alloc(), &mut shelf, name.as_str())?;
+            let (ended, given) = printed(rt.alloc(), stored.as_slice())?;
+            Ok(judged(0, stored.as_slice(), ended, given))
         }
         Case::Refused { name, fault } => {
-            let stored = fault.as_bytes().to_vec(rt.alloc())?;
             let (ended, given) = dry_over(rt, name.as_str())?;
-            (2, stored, ended, given)
+            Ok(judged(REFUSED, fault.as_bytes(), ended, given))
         }
-    };
-    if wanted == code && stored.as_slice() == written.as_slice() {
-        Ok(Outcome::AsStored)
-    } else {
-        Ok(Outcome::Other { code, written })
     }
 }

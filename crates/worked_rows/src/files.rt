@@ -1,6 +1,10 @@
 //! Files, read whole.
-use eon_outside::{FileShelf, ReadEnd, ReadFault, read_up_to};
-use std::alloc::AllocError;
+ghost use Rattle.std.specs.Prelude.{◌≡◌, ◌≢◌, ◌⊎◌, IfOk};
+ghost use Rattle.eon_outside.specs.Faults.{counted};
+ghost use Rattle.eon_outside.specs.WholeFile.{IsFile, IsLonger};
+
+use eon_outside::{ReadEnd, ReadFault, Shelf, read_up_to};
+use std::alloc::{AllocError, Global};
 
 /// The most bytes of a file.
 const LONGEST: usize = 1_048_576;
@@ -22,11 +26,19 @@ impl From<AllocError> for FileFault {
     }
 }
 
-/// All bytes of the file.
-pub fn file_of(rt: &HostRuntime, name: &str) -> Result<Vec<u8>, FileFault> {
-    let mut shelf = FileShelf::new(rt);
-    let mut bytes = Vec::new(rt.alloc());
-    match read_up_to(&mut shelf, name, &mut bytes, LONGEST) {
+/// All bytes of the file of this name.
+pub(crate) fn file_of<H: Shelf>(
+    alloc: Global,
+    shelf: &mut H,
+    name: &str,
+) -> Result<Vec<u8>, FileFault>
+    ensures whole { IfOk result (λ bytes. IsFile (H.files shelf.old) name.now bytes.items) }
+    ensures unread { result ≡ Err FileFault.Unread → (H.faults shelf.new ≡ counted (H.faults shelf.old)) ⊎ IsLonger (H.files shelf.old) name.now 1048576 }
+    ensures text { result ≢ Err FileFault.Text }
+    ensures files { H.files shelf.new ≡ H.files shelf.old }
+{
+    let mut bytes = Vec::new(alloc);
+    match read_up_to(shelf, name, &mut bytes, LONGEST) {
         Ok(ReadEnd::Whole) => Ok(bytes),
         Ok(ReadEnd::Long) => Err(FileFault::Unread),
         Err(ReadFault::Failed) => Err(FileFault::Unread),

@@ -6,7 +6,7 @@ mod case;
 mod files;
 
 use case::{Case, Outcome, outcome_of};
-use eon_outside::{Failed, StdoutSink, write_all};
+use eon_outside::{Failed, FileShelf, StdoutSink, write_all};
 use files::{FileFault, file_of};
 use std::io;
 use std::process::ExitCode;
@@ -59,7 +59,7 @@ fn report(rt: &HostRuntime, line: &str) -> Result<(), Stop> {
 
 /// Tries each case.
 fn report_all(rt: &HostRuntime) -> Result<(), Stop> {
-    let bytes = file_of(rt, CASES)?;
+    let bytes = file_of(rt.alloc(), &mut FileShelf::new(rt), CASES)?;
     let text = String::from_utf8(bytes).map_err(|_| FileFault::Text)?;
     for line in text.as_str().lines() {
         report(rt, line)?;

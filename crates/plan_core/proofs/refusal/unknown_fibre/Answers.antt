@@ -1,11 +1,14 @@
-use Rattle.std.proofs.Common.{arith}
-use Rattle.plan_core.proofs.NameSteps.{fibre_here, fibre_past}
+use Rattle.std.proofs.Common.{◌∙◌, sym, not, rules, tests}
+use Rattle.std.proofs.lemmas.Iterator.Adapters.{option_map_id}
+use Rattle.std.proofs.lemmas.Iterator.Search.{find_from_yields_List}
+use Rattle.std.proofs.lemmas.Iterator.Consumers.{YieldsList-from_first}
+use Rattle.eon_model.specs.Step.{is_fibre}
+use Rattle.command_text.specs.Walks.{names_left}
 use Rattle.plan_core.proofs.refusal.unknown_fibre.Goals as goal
 
-pub returns-then-is_none : goal.returns-then-is_none
-returns-then-is_none c = fibre_here c.args.net.now c.args.names.now c.loop-i.i c.at-name.result c.fibre_of.result c.is_none.result
-    (omega (arith, c.loop-i-test.true, c.len-i-end.ensures)) c.at-name.ensures c.fibre_of.ensures c.is_none.ensures c.if-is_none.true c.loop-i.invariant
-
-pub loop-i-preserved : goal.loop-i-preserved
-loop-i-preserved c = fibre_past c.args.net.now c.args.names.now c.loop-i.i c.at-name.result c.fibre_of.result c.is_none.result
-    (omega (arith, c.loop-i-test.true, c.len-i-end.ensures)) c.at-name.ensures c.fibre_of.ensures c.is_none.ensures c.if-is_none.false c.loop-i.invariant
+pub returns : goal.returns
+returns c =
+    sym (option_map_id c.find.result)
+    ∙ find_from_yields_List (λ name. not (is_fibre c.args.net.now name)) c.find.new.self _ c.find.result c.find.ensures.ran
+    (YieldsList-from_first (λ x. x) names_left c.args.names.now c.iter.ensures)
+    (λ x b q. search (rules, tests))
