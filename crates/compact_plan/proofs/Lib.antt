@@ -1,0 +1,4 @@
+pub mod TopLaws
+pub mod BlockLaws
+pub mod SettleLaws
+pub mod SweepSteps

@@ -1,0 +1,4 @@
+pub mod Blocks
+pub mod Tops
+pub mod Sweeps
+pub mod Told
