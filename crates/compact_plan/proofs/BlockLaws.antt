@@ -89,8 +89,8 @@ all_of state i (s ∷ part) within =
     let there : slice_get state i ≡ Some s = ap (slice_get state) (sym at) ∙ within 0 s refl in (
       record { service = s; there = there; is = inl refl },
       all_append (IsBlockOf state) (map (backup_block i) (option_to_list s.leg.back)) (blocks_from (i + 1) part)
-      (all_back state i s s.leg.back refl there)
-      (all_of state (i + 1) part (λ k t e. ap (slice_get state) (sym (at_end i k)) ∙ within (suc k) t e)),
+          (all_back state i s s.leg.back refl there)
+          (all_of state (i + 1) part (λ k t e. ap (slice_get state) (sym (at_end i k)) ∙ within (suc k) t e)),
     )
 
 -- ---- each once

@@ -2,3 +2,4 @@ pub mod TopLaws
 pub mod BlockLaws
 pub mod SettleLaws
 pub mod SweepSteps
+pub mod TellLaws

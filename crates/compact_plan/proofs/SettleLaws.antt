@@ -265,8 +265,12 @@ module _ (setup : Setup) (state : State) (rest : AtRest state) (legal : Legal se
       | inl none ↦
           let f = any-member (λ (part : Units). lies_in part (units_of s.leg.work.slot)) setup.band (own.in_band s member) in
           absurd (both_ways _ (none.1 f.0 f.1.0) f.1.1)
-      | inr some ↦ (some.0, some.2, some.3,
-          ap (λ (o : Option Units). unwrap_or (option_map (λ (part : Units). height_of part.lo) o) (path_height s.leg.work)) some.1)
+      | inr some ↦ (
+        some.0,
+        some.2,
+        some.3,
+        ap (λ (o : Option Units). unwrap_or (option_map (λ (part : Units). height_of part.lo) o) (path_height s.leg.work)) some.1,
+      )
     ]
 
     low_in_part : (t o q_lo q_hi p_lo p_hi : ℤ) (m : ℕ) → 1 ≤ m →

@@ -339,8 +339,7 @@ swept_all band state blocks are ordered k tops lows end inv setup of_band banded
     let swept = IsSwept-target setup state rest legal in
     let p = target setup state rest legal in
     let leaves = finish setup state rest legal ok p swept blocks are ordered tops lows
-    (subst (λ (n : ℕ). SweptTo state p blocks n tops lows) end (inv setup of_band banded legal rest p swept)) in
-    (
+    (subst (λ (n : ℕ). SweptTo state p blocks n tops lows) end (inv setup of_band banded legal rest p swept)) in (
       leaves.0,
       subst (λ (c : Band). IsTrue (list_all (λ d. is_some (rest_of c (channels_of state (centres state lows)) d))
           (channels_of state (centres state lows)))) of_band leaves.1,

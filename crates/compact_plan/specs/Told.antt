@@ -1,10 +1,10 @@
 -- What is told of the channels that move.
 use Rattle.std.specs.Prelude.{◌≡◌, ℕ, ℤ, List, [], ◌∷◌, ◌++◌, slice_get, map, filter, find, Option, Some, None, IsTrue, if◌then◌else◌}
 use Rattle.std.specs.List.{list_any, flat_map, AllZip}
-use Rattle.std.specs.Option.{option_map, option_or, unwrap_or}
+use Rattle.std.specs.Option.{option_map, unwrap_or}
 use Rattle.eon_model.specs.Grid.{Band, is_on_floor}
 use Rattle.eon_model.specs.Names.{Name}
-use Rattle.eon_model.specs.Services.{Path, State, Holding, holding_of, backup_holdings, is_moving}
+use Rattle.eon_model.specs.Services.{Path, Service, State, Holding, holding_of, backup_holdings, is_moving}
 use Rattle.eon_model.specs.Legal.{Setup, Legal}
 use Rattle.eon_model.specs.NetworkText.{is_setup}
 use Rattle.eon_model.specs.Changes.{path_moved}
@@ -16,7 +16,7 @@ use Rattle.compact_plan.specs.declared.answers.Rest.TheVariants as rest
 use Rattle.compact_plan.specs.declared.answers.Move.{Move}
 use Rattle.compact_plan.specs.declared.answers.Compact.{Compact}
 use Rattle.compact_plan.specs.declared.answers.Compact.TheVariants as compact
-use Rattle.compact_plan.specs.Sweeps.{centre_at, centres}
+use Rattle.compact_plan.specs.Sweeps.{centre_at, centres, LeavesLowest}
 
 -- ---- in the planner's words
 
@@ -84,11 +84,26 @@ first_over cs h =
     option_map (λ d. d.service.name)
     (find (λ d. list_any (λ b. touches_from_below b h) (backup_holdings d.service.leg)) cs)
 
+-- on a backup, and on the floor for nothing
+abbrev pub backup_or_floor : List Channel → Holding → plan.Rest
+backup_or_floor cs h = unwrap_or (option_map plan.Over (first_over cs h)) plan.Floor
+
 -- what it rests on, and the floor for nothing
 abbrev pub rest_at : Band → List Channel → Holding → plan.Rest
 rest_at band cs h =
     if is_on_floor band h.units then plan.Floor
-    else unwrap_or (option_or (option_map plan.On (first_on cs h)) (option_map plan.Over (first_over cs h))) plan.Floor
+    else unwrap_or (option_map plan.On (first_on cs h)) (backup_or_floor cs h)
+
+-- the move of the service's channel to a height, where it rests so
+abbrev pub move_for : Service → ℕ → plan.Rest → plan.Move
+move_for s low r = record {
+  batch = 1;
+  name = s.name;
+  from = s.leg.work.slot.n;
+  to = centre_at low s.leg.work;
+  rest = r;
+  after = None;
+}
 
 abbrev pub move_of : Band → List Channel → Channel → plan.Move
 move_of band cs c = record {
@@ -112,3 +127,8 @@ all_moves band cs = flat_map (moves_of band cs) cs
 abbrev pub IsTold : List Move → List Move → Band → List Channel → ℕ → Type 0
 IsTold old new band cs i =
     (c : Channel) → slice_get cs i ≡ Some c → map move_told new ≡ map move_told old ++ moves_of band cs c
+
+-- the moves to the lowest places
+abbrev pub AreMoves : Band → State → List plan.Move → Type 0
+AreMoves band state moves =
+    (lows : List ℕ) × LeavesLowest band state lows × (moves ≡ all_moves band (channels state lows))

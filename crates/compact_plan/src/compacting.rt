@@ -1,7 +1,7 @@
 //! What `compact` comes to.
 
-ghost use Rattle.std.specs.Prelude.{◌≡◌, IfOk};
-ghost use Rattle.compact_plan.specs.Told.{first_moving, IsCompact};
+ghost use Rattle.std.specs.Prelude.{◌≡◌, map, IfOk};
+ghost use Rattle.compact_plan.specs.Told.{move_told, first_moving, AreMoves, IsCompact};
 
 use crate::answers::{Compact, Targets};
 use crate::block::blocks_in_order;
@@ -25,6 +25,16 @@ fn first_busy(services: &Services) -> Option<Name>
     None
 }
 
+// The moves of all channels to their lowest places.
+fn lowest(alloc: Global, services: &Services, band: &Band) -> Result<Targets, AllocError>
+    ensures { IfOk result (λ t. AreMoves band.now services.now.list (map move_told t.moves.items)) }
+{
+    let blocks = blocks_in_order(alloc, services)?;
+    let lows = sweep(alloc, services, band, &blocks)?;
+    let moves = tell(alloc, services, band, &lows)?;
+    Ok(Targets { moves })
+}
+
 /// How low every channel can drift. `Busy` exactly where a service moves, with the first in list order; else the moves of
 /// the channels whose lowest place is not their own, in list order: the least centre over all states that any unit drifts
 /// of any channels reach, every state on the way legal. Each says what the channel rests on there: the floor of its part of
@@ -33,11 +43,8 @@ fn first_busy(services: &Services) -> Option<Name>
 pub fn compact(alloc: Global, services: &Services, band: &Band) -> Result<Compact, AllocError>
     ensures { IfOk result (IsCompact band.now services.now.list) }
 {
-    if let Some(name) = first_busy(services) {
-        return Ok(Compact::Busy { name });
+    match first_busy(services) {
+        Some(name) => Ok(Compact::Busy { name }),
+        None => Ok(Compact::Lowest(lowest(alloc, services, band)?)),
     }
-    let blocks = blocks_in_order(alloc, services)?;
-    let lows = sweep(alloc, services, band, &blocks)?;
-    let moves = tell(alloc, services, band, &lows)?;
-    Ok(Compact::Lowest(Targets { moves }))
 }

@@ -46,13 +46,7 @@ pub(crate) fn end(path: &Path, low: u16) -> u16
 }
 
 // Takes up what the block has on its fibres: a backup stands, and a channel settles.
-fn take_block(
-    tops: &mut [u16],
-    lows: &mut [u16],
-    services: &Services,
-    band: &Band,
-    block: &Block,
-)
+fn take_block(tops: &mut [u16], lows: &mut [u16], services: &Services, band: &Band, block: &Block)
     requires tops { length tops.old ≡ 256 }
     requires number { block.now.number < length services.now.list }
     requires lows { length lows.old ≡ length services.now.list }

@@ -3,11 +3,10 @@
 ghost use Rattle.std.specs.Prelude.{◌≡◌, ◌<◌, ◌++◌, ℤ, pos, ◌-ℤ◌, length, map, All, IfOk, OnOk};
 ghost use Rattle.std.specs.List.{list_any};
 ghost use Rattle.std.specs.Ordering.{int_eq};
-
 ghost use Rattle.eon_model.specs.Plan.{touches_from_below};
 ghost use Rattle.eon_model.specs.Services.{holding_of, backup_holdings};
 ghost use Rattle.compact_plan.specs.Sweeps.{centre_at};
-ghost use Rattle.compact_plan.specs.Told.{rest_told, move_told, place_at, channels, first_on, first_over, rest_at, IsTold, all_moves};
+ghost use Rattle.compact_plan.specs.Told.{rest_told, move_told, place_at, channels, first_on, first_over, backup_or_floor, rest_at, IsTold, all_moves};
 
 use crate::answers::{Move, Rest};
 use crate::block::{height, path_height};
@@ -32,6 +31,8 @@ fn centre(path: &Path, low: u16) -> i16
 fn begins_at(units: &Units, low: u16) -> bool
     ensures { result ≡ int_eq (pos low -ℤ pos 4096) units.now.lo }
 {
+    // Read for what units keep.
+    let _ = units.lo();
     low == height(units)
 }
 
@@ -60,7 +61,17 @@ fn is_right_below(path: &Path, low: u16, above: &Path, begin: u16) -> bool
 fn stands_right_below(path: &Path, above: &Path, begin: u16) -> bool
     ensures { result ≡ touches_from_below (holding_of path.now) (place_at begin above.now) }
 {
+    // Read for what a slot keeps.
+    let _ = path.slot.m();
     is_right_below(path, path_height(path), above, begin)
+}
+
+// Whether the channel of the service, where it begins at the first height, ends right below.
+fn channel_right_below(service: &Service, low: u16, above: &Path, begin: u16) -> bool
+    requires { low < 8192 }
+    ensures { result ≡ touches_from_below (place_at low service.now.leg.work) (place_at begin above.now) }
+{
+    is_right_below(&service.leg.work, low, above, begin)
 }
 
 // Whether the backup of the service stands right below.
@@ -81,7 +92,7 @@ fn first_channel(services: &Services, lows: &[u16], above: &Path, begin: u16) ->
 {
     for i in 0..services.len() {
         let service = services.at(i);
-        if is_right_below(&service.leg.work, lows[i], above, begin) {
+        if channel_right_below(service, lows[i], above, begin) {
             return Some(service.name);
         }
     }
@@ -102,6 +113,17 @@ fn first_backup(services: &Services, lows: &[u16], above: &Path, begin: u16) -> 
     None
 }
 
+// What the path rests on beside the floor and the channels, where it begins at this height; the floor for nothing.
+fn rest_on_backup(services: &Services, lows: &[u16], path: &Path, low: u16) -> Rest
+    requires long { length lows.now ≡ length services.now.list }
+    ensures { rest_told result ≡ backup_or_floor (channels services.now.list lows.now) (place_at low path.now) }
+{
+    match first_backup(services, lows, path, low) {
+        Some(name) => Rest::Over(name),
+        None => Rest::Floor,
+    }
+}
+
 // What the path rests on where it begins at this height; the floor for nothing.
 fn rest(services: &Services, band: &Band, lows: &[u16], path: &Path, low: u16) -> Rest
     requires long { length lows.now ≡ length services.now.list }
@@ -111,13 +133,58 @@ fn rest(services: &Services, band: &Band, lows: &[u16], path: &Path, low: u16) -
     if is_floor(band, low) {
         return Rest::Floor;
     }
-    if let Some(name) = first_channel(services, lows, path, low) {
-        return Rest::On(name);
+    match first_channel(services, lows, path, low) {
+        Some(name) => Rest::On(name),
+        None => rest_on_backup(services, lows, path, low),
     }
-    match first_backup(services, lows, path, low) {
-        Some(name) => Rest::Over(name),
-        None => Rest::Floor,
-    }
+}
+
+// Whether the path begins at this height where it stands.
+fn is_at(path: &Path, low: u16) -> bool
+    requires { low < 8192 }
+    ensures { result ≡ int_eq (centre_at low path.now) path.now.slot.n }
+{
+    centre(path, low) == path.slot.n()
+}
+
+// Whether the channel of the service does.
+fn stays(service: &Service, low: u16) -> bool
+    requires { low < 8192 }
+    ensures { result ≡ int_eq (centre_at low service.now.leg.work) service.now.leg.work.slot.n }
+{
+    is_at(&service.leg.work, low)
+}
+
+// The name of the service.
+fn name_of(service: &Service) -> Name
+    ensures { result ≡ service.now.name }
+{
+    service.name
+}
+
+// The centre where its channel stands.
+fn present_centre(service: &Service) -> i16
+    ensures { result ≡ service.now.leg.work.slot.n }
+{
+    let path = &service.leg.work;
+    path.slot.n()
+}
+
+// The centre of its channel where it begins at this height.
+fn service_centre(service: &Service, low: u16) -> i16
+    requires { low < 8192 }
+    ensures { result ≡ centre_at low service.now.leg.work }
+{
+    centre(&service.leg.work, low)
+}
+
+// What its channel rests on where it begins at this height; the floor for nothing.
+fn service_rest(services: &Services, band: &Band, lows: &[u16], service: &Service, low: u16) -> Rest
+    requires long { length lows.now ≡ length services.now.list }
+    requires small { All (λ h. h < 8192) lows.now }
+    ensures { rest_told result ≡ rest_at band.now (channels services.now.list lows.now) (place_at low service.now.leg.work) }
+{
+    rest(services, band, lows, &service.leg.work, low)
 }
 
 // Puts the move of the service at this place, if it moves, at the end of the list.
@@ -134,18 +201,16 @@ fn tell_channel(
     ensures { OnOk result (IsTold moves.old.items moves.new.items band.now (channels services.now.list lows.now) i) }
 {
     let service = services.at(i);
-    let path = &service.leg.work;
-    let from = path.slot.n();
-    let to = centre(path, lows[i]);
-    if to == from {
+    let low = lows[i];
+    if stays(service, low) {
         return Ok(());
     }
     moves.push(Move {
         batch: 1,
-        name: service.name,
-        from,
-        to,
-        rest: rest(services, band, lows, path, lows[i]),
+        name: name_of(service),
+        from: present_centre(service),
+        to: service_centre(service, low),
+        rest: service_rest(services, band, lows, service, low),
         after: None,
     })?;
     Ok(())
