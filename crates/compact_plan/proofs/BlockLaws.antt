@@ -1,17 +1,17 @@
 -- The channels and backups of a list of services as blocks.
-use Rattle.std.proofs.Common.{◌≡◌, refl, sym, ◌∙◌, ap, subst, ℕ, zero, suc, ◌+◌, ◌<◌, ◌≤◌, ◌⊎◌, inl, inr, Bool, true, false, cond, ◌&&◌, not, nat_eq, List, [], ◌∷◌, ◌++◌, map, length, drop, append_assoc, append-nil, Option, Some, None, arith}
-use Rattle.std.specs.Prelude.{All, slice_get}
+use Rattle.std.proofs.Common.{◌≡◌, refl, sym, ◌∙◌, ap, subst, ℕ, zero, suc, ◌+◌, ◌<◌, ◌≤◌, inl, inr, Bool, true, false, cond, ◌&&◌, not, nat_eq, List, [], ◌∷◌, ◌++◌, map, length, drop, append_assoc, append-nil, Option, Some, None, arith}
+use Rattle.std.specs.Prelude.{slice_get}
 use Rattle.std.specs.Option.{option_to_list}
 use Rattle.std.specs.List.{Contains, IsDistinct, AllByRecursion}
 use Rattle.std.specs.List.Sorted.{IsPermutation}
 use Rattle.std.specs.Cmp.{nat_eq_equiv}
-use Rattle.std.proofs.lemmas.Bool.{and_parts, and_left, false_from_ne_true, both_ways, eqb-true}
+use Rattle.std.proofs.lemmas.Bool.{and_left, false_from_ne_true, eqb-true}
 use Rattle.std.proofs.lemmas.List.Elements.{All-from_recursion}
 use Rattle.std.proofs.lemmas.List.Sorted.{All-permutation, Contains-permutation}
 use Rattle.std.proofs.lemmas.Map.Keys.{IsDistinct-cons, IsDistinct-IsPermutation}
 use Rattle.eon_model.specs.Services.{Path, Service, State}
 use Rattle.eon_model.proofs.OrderLaws.{IsIn}
-use Rattle.eon_model.proofs.ListLaws.{IsIn-append_left, IsIn-append_right, IsIn-map}
+use Rattle.eon_model.proofs.ListLaws.{IsIn-append_left, IsIn-append_right}
 use Rattle.compact_plan.specs.declared.block.Block.{Block}
 use Rattle.compact_plan.specs.Blocks.{channel_block, backup_block, blocks_of, IsBlockOf, same_block, AreBlocks}
 

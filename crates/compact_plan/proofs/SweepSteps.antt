@@ -1,7 +1,7 @@
 -- A sweep, one block at a time.
-use Rattle.std.proofs.Common.{◌≡◌, refl, sym, ◌∙◌, ap, subst, ℕ, zero, suc, ◌+◌, ◌<◌, ◌≤◌, ◌≢◌, nat_abs, ℤ, pos, negsuc, ◌+ℤ◌, ◌-ℤ◌, ◌≤ℤ◌, ◌⊎◌, inl, inr, Bool, true, false, nat_eq, List, [], ◌∷◌, map, length, get_or, replicate, Option, Some, None, arith}
+use Rattle.std.proofs.Common.{◌≡◌, refl, sym, ◌∙◌, ap, subst, ℕ, zero, suc, ◌+◌, ◌<◌, ◌≤◌, ◌≢◌, nat_abs, ℤ, pos, negsuc, ◌+ℤ◌, ◌-ℤ◌, ◌≤ℤ◌, ◌⊎◌, inl, inr, true, nat_eq, List, [], ◌∷◌, map, length, get_or, replicate, Option, Some, arith}
 use Rattle.std.specs.Prelude.{slice_get, set, is_some, IsTrue}
-use Rattle.std.specs.List.{Contains, list_all}
+use Rattle.std.specs.List.{list_all}
 use Rattle.std.specs.List.Sorted.{IsNonDecreasingBy}
 use Rattle.std.specs.Cmp.{nat_eq_equiv}
 use Rattle.std.proofs.lemmas.Bool.{both_ways, cases_Bool, eqb-true}
@@ -15,7 +15,7 @@ use Rattle.eon_model.specs.Lists.{has_number}
 use Rattle.eon_model.specs.Services.{Path, Service, State}
 use Rattle.eon_model.specs.Legal.{Setup, Legal}
 use Rattle.eon_model.specs.Drift.{AreLowest}
-use Rattle.eon_model.specs.Places.{AtRest, Places, units_at}
+use Rattle.eon_model.specs.Places.{AtRest, Places}
 use Rattle.eon_model.specs.Plan.{Channel, channels_of, rest_of}
 use Rattle.eon_model.proofs.OrderLaws.{IsIn}
 use Rattle.eon_model.proofs.ListLaws.{slice_get_in}
@@ -28,8 +28,8 @@ use Rattle.eon_model.proofs.DescentLaws.{IsSwept}
 use Rattle.eon_model.proofs.SweepExists.{target, IsSwept-target}
 use Rattle.compact_plan.specs.declared.block.Block.{Block}
 use Rattle.compact_plan.specs.Blocks.{path_height, channel_block, backup_block, IsBlockOf, AreBlocks}
-use Rattle.compact_plan.specs.Tops.{settled_height, end_height, Raises}
-use Rattle.compact_plan.specs.Sweeps.{Settles, TakesBlock, centre_at, centres, LeavesLowest}
+use Rattle.compact_plan.specs.Tops.{end_height, Raises}
+use Rattle.compact_plan.specs.Sweeps.{TakesBlock, centres, LeavesLowest}
 use Rattle.compact_plan.proofs.SettleLaws.{low_of, IsDone, ChannelOn, BackupOn, SweptTo, placed_in, settles, target_grid}
 
 -- ---- lists

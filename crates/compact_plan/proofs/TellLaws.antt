@@ -7,7 +7,7 @@ use Rattle.std.specs.Ordering.{int_eq}
 use Rattle.std.specs.Cmp.{nat_eq_equiv}
 use Rattle.std.proofs.lemmas.Bool.{and_parts, and_from, eqb-true, not_from_false}
 use Rattle.std.proofs.lemmas.Int.{ints}
-use Rattle.eon_model.specs.Grid.{Band, Units, Slot, units_of, moved_to, is_units, is_slot, is_band, is_on_floor}
+use Rattle.eon_model.specs.Grid.{Band, Units, units_of, is_units, is_slot, is_band, is_on_floor}
 use Rattle.eon_model.specs.Services.{Path, Service, State, Holding, holding_of, backup_holdings, is_moving}
 use Rattle.eon_model.specs.Changes.{path_moved}
 use Rattle.eon_model.specs.Legal.{Setup, Legal}

@@ -1,13 +1,12 @@
 -- The tops of fibres, one fibre at a time.
-use Rattle.std.proofs.Common.{◌≡◌, refl, sym, ◌∙◌, ap, subst, ℕ, suc, ◌+◌, ◌<◌, ◌≤◌, ◌≢◌, ◌⊎◌, inl, inr, true, false, ◌||◌, nat_eq, List, [], ◌∷◌, ◌++◌, length, take, get_or, arith}
-use Rattle.std.specs.Prelude.{max, set}
-use Rattle.std.specs.List.{list_any}
+use Rattle.std.proofs.Common.{◌≡◌, refl, sym, ◌∙◌, ap, subst, ℕ, suc, ◌+◌, ◌<◌, ◌≤◌, ◌⊎◌, inl, inr, true, false, ◌||◌, nat_eq, List, [], ◌∷◌, ◌++◌, length, take, get_or, arith}
+use Rattle.std.specs.Prelude.{max}
 use Rattle.std.specs.Cmp.{nat_eq_equiv}
 use Rattle.std.proofs.Math.Seq.{take-suc}
-use Rattle.std.proofs.lemmas.Bool.{or_cases, or_left, or_right, eqb-true, cases_Bool, both_ways}
+use Rattle.std.proofs.lemmas.Bool.{or_cases, or_left, or_right, eqb-true, both_ways}
 use Rattle.std.proofs.lemmas.List.Folds.{list_any-append}
 use Rattle.eon_model.specs.Lists.{has_number}
-use Rattle.compact_plan.specs.Tops.{IsTopOver, Raises}
+use Rattle.compact_plan.specs.Tops.{IsTopOver}
 
 -- a number of a list with one more at its end
 one_more : (fs : List ℕ) (f g : ℕ) → has_number (fs ++ f ∷ []) g ≡ true → (has_number fs g ≡ true) ⊎ (f ≡ g)

@@ -1,5 +1,4 @@
-use Rattle.std.proofs.Common.{◌≡◌, ◌∙◌, refl, false, Some, get_or, arith}
-use Rattle.std.specs.Prelude.{slice_get}
+use Rattle.std.proofs.Common.{◌∙◌, refl, false, get_or, arith}
 use Rattle.std.proofs.lemmas.Option.{slice_get-get_or}
 use Rattle.compact_plan.specs.declared.block.Block.{Block}
 use Rattle.compact_plan.proofs.SweepSteps.{swept_none, swept_more, swept_all, number_in}

@@ -1,4 +1,4 @@
-use Rattle.std.proofs.Common.{◌≡◌, ◌≤◌, ◌∙◌, sym, length, get_or, Some, arith}
+use Rattle.std.proofs.Common.{◌≤◌, ◌∙◌, sym, length, get_or, Some, arith}
 use Rattle.std.specs.List.{list_any}
 use Rattle.eon_model.specs.Plan.{Channel, touches_from_below}
 use Rattle.eon_model.specs.Services.{backup_holdings}

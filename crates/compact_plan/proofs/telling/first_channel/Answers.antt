@@ -1,4 +1,4 @@
-use Rattle.std.proofs.Common.{◌≡◌, ◌≤◌, ◌∙◌, sym, length, get_or, Some, arith}
+use Rattle.std.proofs.Common.{◌≤◌, ◌∙◌, sym, length, get_or, Some, arith}
 use Rattle.eon_model.specs.Plan.{Channel, target_place, touches_from_below}
 use Rattle.compact_plan.specs.Sweeps.{centre_at}
 use Rattle.compact_plan.specs.Told.{channels, place_at}

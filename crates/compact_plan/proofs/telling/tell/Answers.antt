@@ -1,5 +1,4 @@
-use Rattle.std.proofs.Common.{◌≡◌, ◌≤◌, length, get_or, arith}
-use Rattle.compact_plan.specs.Sweeps.{centre_at}
+use Rattle.std.proofs.Common.{◌≤◌, length, arith}
 use Rattle.compact_plan.specs.Told.{channels}
 use Rattle.compact_plan.proofs.TellLaws.{channels_long, told_at, told_end}
 use Rattle.compact_plan.proofs.telling.tell.Goals as goal
