@@ -1,0 +1,9 @@
+pub mod BitLaws
+pub mod WordLaws
+pub mod RangeLaws
+pub mod HighestLaws
+pub mod CountSteps
+pub mod SpanLaws
+pub mod KeptLaws
+pub mod QueryLaws
+pub mod EmptyLaws

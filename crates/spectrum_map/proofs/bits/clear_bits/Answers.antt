@@ -1,0 +1,32 @@
+use Rattle.std.proofs.Common.{◌∙◌, ◌/◌, ◌<◌, arith, refl, length, length-set}
+use Rattle.spectrum_map.proofs.WordLaws.{cleared_start, cleared_step, cleared_end}
+use Rattle.spectrum_map.proofs.bits.clear_bits.Goals as goal
+
+pub loop-word-init : goal.loop-word-init
+loop-word-init c = record {
+  len = refl;
+  bits = cleared_start c.args.words.now (c.args.first / 64) c.args.first c.args.end (omega arith);
+}
+
+pub loop-word-preserved : goal.loop-word-preserved
+loop-word-preserved c =
+    let long = c.loop-word.invariant.len in
+    let near = c.loop-word-test.true in
+    let last = c.div_ceil-word-end.ensures in
+    let within : c.loop-word.word < length c.loop-word.words =
+    omega (arith, c.requires.within, long, near, last) in
+    record {
+      len = length-set c.loop-word.words c.loop-word.word _ ∙ long;
+      bits = cleared_step c.args.words.now c.loop-word.words c.loop-word.word c.args.first c.args.end c.mask.result within
+          c.mask.ensures c.mask.type_inv c.loop-word.invariant.bits;
+    }
+
+pub returns : goal.returns
+returns c =
+    let last = c.div_ceil-word-end.ensures in
+    let far = c.loop-word-test.false in
+    record {
+      len = c.loop-word.invariant.len;
+      bits = cleared_end c.args.words.now c.loop-word.words c.loop-word.word c.args.first c.args.end
+          (omega (arith, last, far)) c.loop-word.invariant.bits;
+    }
