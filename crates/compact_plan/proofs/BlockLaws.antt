@@ -12,6 +12,7 @@ use Rattle.std.proofs.lemmas.Map.Keys.{IsDistinct-cons, IsDistinct-IsPermutation
 use Rattle.eon_model.specs.Services.{Path, Service, State}
 use Rattle.eon_model.proofs.OrderLaws.{IsIn}
 use Rattle.eon_model.proofs.ListLaws.{IsIn-append_left, IsIn-append_right}
+use Rattle.compact_plan.proofs.ListSteps.{opened, none_left}
 use Rattle.compact_plan.specs.declared.block.Block.{Block}
 use Rattle.compact_plan.specs.Blocks.{channel_block, backup_block, blocks_of, IsBlockOf, same_block, AreBlocks}
 
@@ -191,11 +192,6 @@ are_moved state xs ys are moved = record {
 
 -- ---- one service after the other
 
-opened : (state : State) (i : ℕ) (s : Service) → slice_get state i ≡ Some s → drop i state ≡ s ∷ drop (suc i) state
-opened [] i s e = cc
-opened (t ∷ state) zero s e = let same : t ≡ s = cc in ap (λ (x : Service). x ∷ state) same
-opened (t ∷ state) (suc i) s e = opened state i s e
-
 pub listed_more : (xs ys : List Block) (state : State) (i : ℕ) (s : Service) (all : List Block) →
     slice_get state i ≡ Some s → ys ≡ xs ++ blocks_of i s →
     xs ++ blocks_from i (drop i state) ≡ all → ys ++ blocks_from (i + 1) (drop (i + 1) state) ≡ all
@@ -203,17 +199,7 @@ unfolding blocks_from
 listed_more xs ys state i s all e is h =
     ap (λ (zs : List Block). zs ++ blocks_from (i + 1) (drop (i + 1) state)) is
     ∙ append_assoc xs (blocks_of i s) (blocks_from (i + 1) (drop (i + 1) state))
-    ∙ ap (λ (k : ℕ). xs ++ (blocks_of i s ++ blocks_from (i + 1) (drop k state))) (one_on i)
     ∙ ap (λ (part : State). xs ++ blocks_from i part) (sym (opened state i s e)) ∙ h
-  where
-    one_on : (i : ℕ) → i + 1 ≡ suc i
-    one_on i = omega arith
-
-none_left : (state : State) (i : ℕ) → length state ≤ i → drop i state ≡ []
-none_left [] zero h = refl
-none_left [] (suc i) h = refl
-none_left (s ∷ state) zero h = absurd (omega arith)
-none_left (s ∷ state) (suc i) h = none_left state i (omega arith)
 
 pub listed_all : (xs : List Block) (state : State) (i : ℕ) → length state ≤ i →
     xs ++ blocks_from i (drop i state) ≡ blocks_from 0 state → AreBlocks state xs

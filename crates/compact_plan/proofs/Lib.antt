@@ -1,3 +1,4 @@
+pub mod ListSteps
 pub mod TopLaws
 pub mod BlockLaws
 pub mod SettleLaws

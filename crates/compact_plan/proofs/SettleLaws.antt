@@ -64,6 +64,17 @@ end_at t b m h e = omega (arith, ints)
 not_above : (a : ℤ) (n : ℤ) (m : ℕ) → 1 ≤ m → ((n +ℤ pos m) -ℤ pos 1) <ℤ a → a ≤ℤ (n -ℤ pos m) → ⊥
 not_above a n m wide h l = omega (arith, ints)
 
+-- the centre of a path with its lowest unit at a height
+pub centre_back : (t : ℤ) (m : ℕ) → negsuc 4095 ≤ℤ (t -ℤ pos m) →
+    (pos (nat_abs ((t -ℤ pos m) +ℤ pos 4096) + m) -ℤ pos 4096) ≡ t
+centre_back t m h = omega (arith, ints)
+
+-- a range of units lies in the grid
+pub units_low : (u : Units) → is_units u ≡ true → negsuc 4095 ≤ℤ u.lo
+units_low u h =
+    let x = and_parts (int_le (negsuc 4095) u.lo && int_le u.lo u.hi) (int_le u.hi (pos 4095)) h in
+    int_le-le (negsuc 4095) u.lo (and_parts (int_le (negsuc 4095) u.lo) (int_le u.lo u.hi) x.0).0
+
 -- ---- places of a list
 
 pub index_in : {X : Type 0} (xs : List X) (x : X) → IsIn x xs → (i : ℕ) × (slice_get xs i ≡ Some x)
@@ -200,10 +211,8 @@ module _ (setup : Setup) (state : State) (rest : AtRest state) (legal : Legal se
   on_grid : (a : Units) → lies_in_band setup.band a ≡ true → negsuc 4095 ≤ℤ a.lo
   on_grid a h =
       let f = any-member (λ (part : Units). lies_in part a) setup.band h in
-      let units = list_all-at is_units setup.band f.0 parts.units f.1.0 in
-      let x = and_parts (int_le (negsuc 4095) f.0.lo && int_le f.0.lo f.0.hi) (int_le f.0.hi (pos 4095)) units in
-      let y = and_parts (int_le (negsuc 4095) f.0.lo) (int_le f.0.lo f.0.hi) x.0 in
-      le_then (negsuc 4095) f.0.lo a.lo (int_le-le (negsuc 4095) f.0.lo y.0) (lies_in-facts f.0 a f.1.1).0
+      le_then (negsuc 4095) f.0.lo a.lo (units_low f.0 (list_all-at is_units setup.band f.0 parts.units f.1.0))
+      (lies_in-facts f.0 a f.1.1).0
 
   own_grid : (s : Service) → IsIn s state → negsuc 4095 ≤ℤ (units_at own_places s).lo
   own_grid s i = on_grid (units_at own_places s) (own.in_band s i)

@@ -1,11 +1,10 @@
 -- A sweep, one block at a time.
-use Rattle.std.proofs.Common.{◌≡◌, refl, sym, ◌∙◌, ap, subst, ℕ, zero, suc, ◌+◌, ◌<◌, ◌≤◌, ◌≢◌, nat_abs, ℤ, pos, negsuc, ◌+ℤ◌, ◌-ℤ◌, ◌≤ℤ◌, ◌⊎◌, inl, inr, true, nat_eq, List, [], ◌∷◌, map, length, get_or, replicate, Option, Some, arith}
+use Rattle.std.proofs.Common.{◌≡◌, refl, sym, ◌∙◌, ap, subst, ℕ, zero, suc, ◌+◌, ◌<◌, ◌≤◌, ◌≢◌, ℤ, ◌⊎◌, inl, inr, true, nat_eq, List, [], ◌∷◌, map, length, get_or, replicate, Option, Some, arith}
 use Rattle.std.specs.Prelude.{slice_get, set, is_some, IsTrue}
 use Rattle.std.specs.List.{list_all}
 use Rattle.std.specs.List.Sorted.{IsNonDecreasingBy}
 use Rattle.std.specs.Cmp.{nat_eq_equiv}
 use Rattle.std.proofs.lemmas.Bool.{both_ways, cases_Bool, eqb-true}
-use Rattle.std.proofs.lemmas.Int.{ints}
 use Rattle.std.proofs.lemmas.Option.{slice_get_within, slice_get_read, get_or_from_slice_get}
 use Rattle.std.proofs.lemmas.List.{get_or-set_same, get_or-set_other}
 use Rattle.std.proofs.lemmas.List.{length-set}
@@ -30,7 +29,7 @@ use Rattle.compact_plan.specs.declared.block.Block.{Block}
 use Rattle.compact_plan.specs.Blocks.{path_height, channel_block, backup_block, IsBlockOf, AreBlocks}
 use Rattle.compact_plan.specs.Tops.{end_height, Raises}
 use Rattle.compact_plan.specs.Sweeps.{TakesBlock, centres, LeavesLowest}
-use Rattle.compact_plan.proofs.SettleLaws.{low_of, IsDone, ChannelOn, BackupOn, SweptTo, placed_in, settles, target_grid}
+use Rattle.compact_plan.proofs.SettleLaws.{low_of, IsDone, ChannelOn, BackupOn, SweptTo, placed_in, settles, target_grid, centre_back}
 
 -- ---- lists
 
@@ -256,10 +255,6 @@ module _ (setup : Setup) (state : State) (rest : AtRest state) (legal : Legal se
       let first : Some l ≡ Some (low_of p s) = h 0 s refl in
       let same : l ≡ low_of p s = cc in
       λ i. same i ∷ lows_are part lows (omega arith) (λ j t f. h (suc j) t f) i
-
-  centre_back : (t : ℤ) (m : ℕ) → negsuc 4095 ≤ℤ (t -ℤ pos m) →
-      (pos (nat_abs ((t -ℤ pos m) +ℤ pos 4096) + m) -ℤ pos 4096) ≡ t
-  centre_back t m h = omega (arith, ints)
 
   centres_are : (part : State) → ((s : Service) → IsIn s part → IsIn s state) →
       centres part (map (low_of p) part) ≡ map p part

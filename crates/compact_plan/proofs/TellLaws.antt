@@ -1,6 +1,6 @@
 -- What is told of channels, by heights.
-use Rattle.std.proofs.Common.{◌≡◌, refl, sym, ◌∙◌, ap, subst, ℕ, zero, suc, ◌+◌, ◌<◌, ◌≤◌, nat_abs, ℤ, pos, negsuc, ◌+ℤ◌, ◌-ℤ◌, ◌≤ℤ◌, Bool, true, false, cond, ◌&&◌, not, nat_eq, List, [], ◌∷◌, ◌++◌, map, filter, find, length, drop, get_or, Option, Some, None, append_assoc, append-nil, arith}
-use Rattle.std.specs.Prelude.{slice_get, int_le, nat_le, is_some, IsTrue}
+use Rattle.std.proofs.Common.{◌≡◌, refl, sym, ◌∙◌, ap, subst, ℕ, zero, suc, ◌+◌, ◌<◌, ◌≤◌, nat_abs, ℤ, pos, negsuc, ◌+ℤ◌, ◌-ℤ◌, ◌≤ℤ◌, Bool, true, false, cond, ◌&&◌, not, nat_eq, List, [], ◌∷◌, ◌++◌, map, filter, find, length, drop, add-one, get_or, Option, Some, None, append_assoc, append-nil, arith}
+use Rattle.std.specs.Prelude.{slice_get, nat_le, is_some, IsTrue}
 use Rattle.std.specs.Option.{option_map, option_or, unwrap_or}
 use Rattle.std.specs.List.{list_all, list_any, flat_map, AllZip}
 use Rattle.std.specs.Ordering.{int_eq}
@@ -15,9 +15,10 @@ use Rattle.eon_model.specs.NetworkText.{is_setup}
 use Rattle.eon_model.specs.Places.{AtRest}
 use Rattle.eon_model.specs.Plan as plan
 use Rattle.eon_model.specs.Plan.{Channel, channels_of, old_path, target_place, is_move, touches_from_below, rest_of, channel_below, backup_below}
-use Rattle.eon_model.proofs.GridLaws.{int_le-le}
 use Rattle.eon_model.proofs.SlotSteps.{int_eq-of, int_eq-same}
 use Rattle.eon_model.proofs.SetupFacts.{setup-facts}
+use Rattle.compact_plan.proofs.ListSteps.{opened, none_left}
+use Rattle.compact_plan.proofs.SettleLaws.{units_low, centre_back}
 use Rattle.compact_plan.specs.Blocks.{height_of, path_height}
 use Rattle.compact_plan.specs.Sweeps.{centre_at, centres, LeavesLowest}
 use Rattle.compact_plan.specs.Told.{move_told, place_at, channels, first_on, backup_or_floor, rest_at, move_of, moves_of, all_moves, IsTold, TellsTarget, AreTargets}
@@ -30,11 +31,6 @@ bool_same : (a b : Bool) → (a ≡ true → b ≡ true) → (b ≡ true → a �
 bool_same true b f g = sym (f refl)
 bool_same false true f g = g refl
 bool_same false false f g = refl
-
-units_low : (u : Units) → is_units u ≡ true → negsuc 4095 ≤ℤ u.lo
-units_low u h =
-    let x = and_parts (int_le (negsuc 4095) u.lo && int_le u.lo u.hi) (int_le u.hi (pos 4095)) h in
-    int_le-le (negsuc 4095) u.lo (and_parts (int_le (negsuc 4095) u.lo) (int_le u.lo u.hi) x.0).0
 
 at_height : (low : ℕ) (lo : ℤ) → negsuc 4095 ≤ℤ lo → low ≡ nat_abs (lo +ℤ pos 4096) → (pos low -ℤ pos 4096) ≡ lo
 at_height low lo h e = omega (arith, ints)
@@ -49,10 +45,6 @@ begins low u h = bool_same _ _
     (λ t. int_eq-of (pos low -ℤ pos 4096) u.lo (at_height low u.lo (units_low u h) (eqb-true low (height_of u.lo) t)))
     (λ t. subst (λ (k : ℕ). nat_eq low k ≡ true)
     (of_at_height low u.lo (units_low u h) (int_eq-same (pos low -ℤ pos 4096) u.lo t)) (nat_eq_equiv.refl low))
-
-centre_back : (t : ℤ) (m : ℕ) → negsuc 4095 ≤ℤ (t -ℤ pos m) →
-    (pos (nat_abs ((t -ℤ pos m) +ℤ pos 4096) + m) -ℤ pos 4096) ≡ t
-centre_back t m h = omega (arith, ints)
 
 -- a path where it stands
 pub stands : (p : Path) → is_slot p.slot ≡ true → place_at (path_height p) p ≡ holding_of p
@@ -185,10 +177,7 @@ first_here p cs i d inv e h = ap (option_map (λ (d : Channel). d.service.name))
 pub first_past : (p : Channel → Bool) (cs : List Channel) (i : ℕ) (d : Channel) → find p (drop i cs) ≡ find p cs →
     slice_get cs i ≡ Some d → p d ≡ false → find p (drop (i + 1) cs) ≡ find p cs
 first_past p cs i d inv e h =
-    ap (λ (k : ℕ). find p (drop k cs)) (one_on i) ∙ sym (find_past p cs i d e h) ∙ inv
-  where
-    one_on : (i : ℕ) → i + 1 ≡ suc i
-    one_on i = omega arith
+    ap (λ (k : ℕ). find p (drop k cs)) (add-one i) ∙ sym (find_past p cs i d e h) ∙ inv
 
 pub first_end : (p : Channel → Bool) (cs : List Channel) (i : ℕ) → find p (drop i cs) ≡ find p cs → length cs ≤ i →
     None ≡ option_map (λ (d : Channel). d.service.name) (find p cs)
@@ -249,11 +238,6 @@ told_moves old new m band cs i d e h is told c f =
     (sym (ap (λ (x : Channel). moves_of band cs x) (one_channel (slice_get cs i) c d f e)
     ∙ ap (λ (b : Bool). cond (not b) (move_of band cs d ∷ []) []) h))
 
-opened : (cs : List Channel) (i : ℕ) (c : Channel) → slice_get cs i ≡ Some c → drop i cs ≡ c ∷ drop (suc i) cs
-opened [] i c e = cc
-opened (d ∷ cs) zero c e = let same : d ≡ c = cc in ap (λ (x : Channel). x ∷ cs) same
-opened (d ∷ cs) (suc i) c e = opened cs i c e
-
 pub told_more : (old new : List Move) (band : Band) (cs : List Channel) (i : ℕ) (c : Channel) → slice_get cs i ≡ Some c →
     IsTold old new band cs i →
     map move_told old ++ flat_map (moves_of band cs) (drop i cs) ≡ all_moves band cs →
@@ -261,17 +245,7 @@ pub told_more : (old new : List Move) (band : Band) (cs : List Channel) (i : ℕ
 told_more old new band cs i c e told inv =
     ap (λ (ms : List plan.Move). ms ++ flat_map (moves_of band cs) (drop (i + 1) cs)) (told c e)
     ∙ append_assoc (map move_told old) (moves_of band cs c) (flat_map (moves_of band cs) (drop (i + 1) cs))
-    ∙ ap (λ (k : ℕ). map move_told old ++ (moves_of band cs c ++ flat_map (moves_of band cs) (drop k cs))) (one_on i)
     ∙ ap (λ (ds : List Channel). map move_told old ++ flat_map (moves_of band cs) ds) (sym (opened cs i c e)) ∙ inv
-  where
-    one_on : (i : ℕ) → i + 1 ≡ suc i
-    one_on i = omega arith
-
-none_left : (cs : List Channel) (i : ℕ) → length cs ≤ i → drop i cs ≡ []
-none_left [] zero h = refl
-none_left [] (suc i) h = refl
-none_left (c ∷ cs) zero h = absurd (omega arith)
-none_left (c ∷ cs) (suc i) h = none_left cs i (omega arith)
 
 pub told_end : (moves : List Move) (band : Band) (cs : List Channel) (i : ℕ) → length cs ≤ i →
     map move_told moves ++ flat_map (moves_of band cs) (drop i cs) ≡ all_moves band cs →

@@ -1,5 +1,5 @@
 -- The tops of fibres, one fibre at a time.
-use Rattle.std.proofs.Common.{◌≡◌, refl, sym, ◌∙◌, ap, subst, ℕ, suc, ◌+◌, ◌<◌, ◌≤◌, ◌⊎◌, inl, inr, true, false, ◌||◌, nat_eq, List, [], ◌∷◌, ◌++◌, length, take, get_or, arith}
+use Rattle.std.proofs.Common.{◌≡◌, refl, sym, ◌∙◌, ap, subst, ℕ, ◌+◌, ◌<◌, ◌≤◌, ◌⊎◌, inl, inr, true, false, ◌||◌, nat_eq, List, [], ◌∷◌, ◌++◌, length, take, add-one, get_or, arith}
 use Rattle.std.specs.Prelude.{max}
 use Rattle.std.specs.Cmp.{nat_eq_equiv}
 use Rattle.std.proofs.Math.Seq.{take-suc}
@@ -64,8 +64,5 @@ pub over_next : (tops fs : List ℕ) (floor top i next : ℕ) → i < length fs 
 over_next tops fs floor top i next within e h =
     subst (λ (n : ℕ). IsTopOver tops (take (i + 1) fs) floor n) (sym e)
     (subst (λ (gs : List ℕ). IsTopOver tops gs floor (max top (get_or tops (get_or fs i 0) 0)))
-    (sym (ap (λ (k : ℕ). take k fs) (one_on i) ∙ take-suc fs i 0 within))
+    (sym (ap (λ (k : ℕ). take k fs) (add-one i) ∙ take-suc fs i 0 within))
     (over_more tops (take i fs) floor top (get_or fs i 0) h))
-  where
-    one_on : (i : ℕ) → i + 1 ≡ suc i
-    one_on i = omega arith
