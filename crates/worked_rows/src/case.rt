@@ -29,6 +29,11 @@ pub enum Case {
     PrintedBack {
         name: String,
     },
+    /// The planner called with these words gives its replies in so many writes.
+    Writes {
+        count: String,
+        words: Vec<String>,
+    },
     /// The planner refuses the network of this name, and says where and why.
     Refused {
         name: String,
@@ -55,7 +60,8 @@ fn words_of(alloc: Global, line: &str) -> Result<Vec<String>, AllocError> {
 }
 
 impl Case {
-    /// Reads a line: `back FILE`, `refused FILE LINE WORD`, or `CODE FILE` and the words of a call.
+    /// Reads a line: `back FILE`, `refused FILE LINE WORD`, `writes COUNT` and the words of a call, or `CODE FILE` and
+    /// the words of a call.
     pub(crate) fn read(alloc: Global, line: &str) -> Result<Case, FileFault> {
         let Some((first, rest)) = line.split_once(' ') else {
             return Err(FileFault::Text);
@@ -67,15 +73,20 @@ impl Case {
         if first == "refused" {
             return Case::read_refusal(alloc, rest);
         }
-        let Ok(code) = first.parse::<u8>() else {
-            return Err(FileFault::Text);
-        };
-        let (written, words) = rest.split_once(' ').unwrap_or((rest, ""));
-        Ok(Case::Call {
-            code,
-            written: String::from_str(alloc, written)?,
-            words: words_of(alloc, words)?,
-        })
+        let (told, words) = rest.split_once(' ').unwrap_or((rest, ""));
+        let told = String::from_str(alloc, told)?;
+        let words = words_of(alloc, words)?;
+        if first == "writes" {
+            return Ok(Case::Writes { count: told, words });
+        }
+        match first.parse::<u8>() {
+            Ok(code) => Ok(Case::Call {
+                code,
+                written: told,
+                words,
+            }),
+            Err(_) => Err(FileFault::Text),
+        }
     }
 
     /// Reads `FILE LINE WORD`.
@@ -90,13 +101,25 @@ impl Case {
     }
 }
 
-/// What the call came to.
-fn called(rt: &HostRuntime, words: &[String]) -> Result<(u8, Vec<u8>), AllocError> {
+/// Calls the planner over the files of the machine, and answers the code that it ends with, and the output.
+fn call(rt: &HostRuntime, words: &[String]) -> Result<(u8, MemSink), AllocError> {
     let alloc = rt.alloc();
     let mut shelf = FileShelf::new(rt);
     let mut out = MemSink::new(alloc, ROOM, ROOM, Vec::new(alloc))?;
     let status = plan_main(alloc, words, &mut shelf, &mut out);
-    Ok((status.code(), out.given().to_vec(alloc)?))
+    Ok((status.code(), out))
+}
+
+/// The code of the call, and what it wrote.
+fn called(rt: &HostRuntime, words: &[String]) -> Result<(u8, Vec<u8>), AllocError> {
+    let (code, out) = call(rt, words)?;
+    Ok((code, out.given().to_vec(rt.alloc())?))
+}
+
+/// The code of the call, and the number of its writes.
+fn writes_of(rt: &HostRuntime, words: &[String]) -> Result<(u8, String), AllocError> {
+    let (code, out) = call(rt, words)?;
+    Ok((code, format!(in rt.alloc(); "{}", out.calls())?))
 }
 
 /// The code and the text with which a network text is printed back: code 2 and no text where it is refused.
@@ -147,6 +170,10 @@ pub(crate) fn outcome_of(rt: &HostRuntime, case: &Case) -> Result<Outcome, FileF
             let stored = file_of(rt.alloc(), &mut shelf, name.as_str())?;
             let (ended, given) = printed(rt.alloc(), stored.as_slice())?;
             Ok(judged(0, stored.as_slice(), ended, given))
+        }
+        Case::Writes { count, words } => {
+            let (ended, writes) = writes_of(rt, words.as_slice())?;
+            Ok(judged(0, count.as_bytes(), ended, writes.into_bytes()))
         }
         Case::Refused { name, fault } => {
             let (ended, given) = dry_over(rt, name.as_str())?;
