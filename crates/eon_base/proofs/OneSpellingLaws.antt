@@ -1,18 +1,19 @@
 -- Each number has one spelling.
-use Rattle.std.proofs.Common.{◌≡◌, refl, sym, ◌∙◌, ap, subst, ℕ, zero, suc, ◌+◌, ◌-◌, ◌*◌, ◌<◌, ◌≤◌, ◌^◌, ℤ, pos, negsuc, Bool, true, false, cond, ◌&&◌, ◌||◌, List, [], ◌∷◌, length, get_or, nat_eq, Some, None, arith, rules}
+use Rattle.std.proofs.Common.{◌≡◌, refl, sym, ◌∙◌, ap, ℕ, zero, suc, ◌+◌, ◌-◌, ◌*◌, ◌<◌, ◌≤◌, ◌^◌, ℤ, pos, negsuc, Bool, true, false, cond, ◌&&◌, ◌||◌, List, [], ◌∷◌, length, get_or, nat_eq, Some, None, arith, rules}
 use Rattle.std.specs.Prelude.{nat_le, nat_lt, nat_abs, neg_ℤ, not, bytes_eq, codes}
 use Rattle.std.specs.List.{list_all, fold}
 use Rattle.std.specs.Result.{result_ok}
 use Rattle.std.specs.Fmt.{decimal, signed_decimal}
-use Rattle.std.proofs.lemmas.Fmt.{decimal_digit, decimal-digits_value}
+use Rattle.std.proofs.lemmas.Fmt.{decimal-digits_value}
 use Rattle.std.proofs.lemmas.Str.Parse.{IsNumeralModel, numerals_by_fold}
-use Rattle.std.proofs.lemmas.Bool.{and_parts, and_from, leb-true, le-leb, false_from_ne_true, both_ways, lt-ltb, ltb-true, eqb-true}
+use Rattle.std.proofs.lemmas.Bool.{and_parts, and_from, leb-true, le-leb, false_from_ne_true, lt-ltb, ltb-true, eqb-true}
 use Rattle.std.proofs.lemmas.Slice.Eq.{bytes_eq-Decides}
 use Rattle.eon_model.specs.Numerals.{is_within, is_digit, is_number, number_value, is_signed, signed_value}
-use Rattle.eon_model.proofs.SpellingLaws.{Spells, decimal-Spells, number_value-decimal}
+use Rattle.eon_model.proofs.SpellingLaws.{decimal-Spells, number_value-decimal, not_minus}
 use Rattle.eon_base.specs.Numbers.{number_of, integer_of}
 use Rattle.eon_base.specs.Laws.{OneSpelling, OneSignedSpelling}
 use Rattle.eon_base.proofs.NumberLemmas.{bounded-value, zero_is, plus_is}
+use Rattle.eon_model.proofs.TextNumbers.{decimal_formed}
 
 module _ {X : Type 0} where
   chosen_parts : (f g : Bool) (x y : X) → cond (f && g) (Some x) None ≡ Some y →
@@ -59,19 +60,6 @@ respelled : (ds : List ℕ) → is_number ds ≡ true → number_value ds < 2 ^ 
 respelled ds h small = let f = formed ds h in decimal-digits_value own ds f.digits f.some f.lead small
 
 -- ---- spellings
-
-or_true : (a b : Bool) → b ≡ true → (a || b) ≡ true
-or_true true b h = refl
-or_true false b h = h
-
-positive_formed : (n : ℕ) (ds : List ℕ) → 0 < n → Spells n ds → is_number ds ≡ true
-positive_formed n ds h s =
-    let tail = (and_parts (is_digit s.first) (list_all is_digit s.rest) (sym (ap (list_all is_digit) s.is) ∙ s.digits)).1 in
-    ap is_number s.is ∙ or_true (bytes_eq (s.first ∷ s.rest) (codes "0")) _ (and_from _ _ (s.lead h) tail)
-
-pub decimal_formed : (n : ℕ) → n < 2 ^ 64 → is_number (decimal n) ≡ true
-decimal_formed zero h = ap is_number (decimal_digit 0 (omega arith))
-decimal_formed (suc n) h = positive_formed (suc n) (decimal (suc n)) (omega arith) (decimal-Spells (suc n) h)
 
 pub one_spelling : OneSpelling
 one_spelling v bytes small = (
@@ -131,16 +119,12 @@ signed_spelled : (bytes : List ℕ) (z : ℤ) → integer_of bytes ≡ Some z �
 signed_spelled [] z h = cc
 signed_spelled (b ∷ ds) z h = signed_spelled_from b ds z (nat_eq b 45) refl h
 
-no_minus : (b : ℕ) → is_digit b ≡ true → nat_eq b 45 ≡ false
-no_minus b h = false_from_ne_true (nat_eq b 45) λ e. both_ways (is_digit 45) refl
-    (subst (λ (v : ℕ). is_digit v ≡ true) (eqb-true b 45 e) h)
-
 -- digits are read as a signed number too
 plus_read : (b : ℕ) (ds : List ℕ) (n : ℕ) → is_digit b ≡ true → is_number (b ∷ ds) ≡ true →
     number_value (b ∷ ds) ≡ n → n < 2 ^ 63 → integer_of (b ∷ ds) ≡ Some (pos n)
 plus_read b ds n d h v small =
     sym (bounded-value (is_signed (b ∷ ds)) (nat_lt (nat_abs (signed_value (b ∷ ds))) (2 ^ 63)) (signed_value (b ∷ ds)))
-    ∙ ap result_ok (plus_is b ds (no_minus b d))
+    ∙ ap result_ok (plus_is b ds (not_minus b d))
     ∙ bounded-value (is_number (b ∷ ds)) (nat_lt (number_value (b ∷ ds)) (2 ^ 63)) (pos (number_value (b ∷ ds)))
     ∙ chosen_from (is_number (b ∷ ds)) (nat_lt (number_value (b ∷ ds)) (2 ^ 63)) (pos (number_value (b ∷ ds))) (pos n) h
     (ap (λ k. nat_lt k (2 ^ 63)) v ∙ lt-ltb n (2 ^ 63) small) (ap pos v)

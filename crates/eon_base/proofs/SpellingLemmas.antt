@@ -6,9 +6,6 @@ use Rattle.std.proofs.lemmas.Fmt.{length-decimal-le}
 use Rattle.std.proofs.lemmas.List.{take-replicate, take-take, take-set, drop-set, length-set}
 use Rattle.eon_base.specs.Aligned.{IsAligned}
 
-pub digits_fit : (n : ℕ) → n < 2 ^ 64 → length (decimal n) ≤ 20
-digits_fit n h = length-decimal-le 20 n (omega arith) (omega (arith, h)) h
-
 pub small_digits_fit : (n : ℕ) → n < 2 ^ 63 → length (decimal n) ≤ 19
 small_digits_fit n h = length-decimal-le 19 n (omega arith) (omega (arith, h)) (omega (arith, h))
 

@@ -23,12 +23,13 @@ use Rattle.eon_model.proofs.Members.{list_all-at, list_all-of, any-member}
 use Rattle.eon_model.proofs.RouteLaws.{far_end_cases, walks-IsListed}
 use Rattle.eon_model.proofs.DeviationWalks.{nodes_of_walk}
 use Rattle.eon_model.proofs.DeviationFibres.{step-of, ends-visited}
-use Rattle.eon_model.proofs.FirstRoutesLaws.{is_route-route_of}
+use Rattle.eon_model.proofs.FirstRoutesLaws.{is_route-route_of, all_of}
 use Rattle.eon_model.proofs.SetupLaws.{setup-EndsAreNodes}
 use Rattle.eon_model.proofs.ToldLaws.{path_fits-route}
 use Rattle.eon_model.proofs.BackupLaws.{LegFits, fits-parts, backup-path}
 use Rattle.eon_model.proofs.RangeLaws.{path-range}
 use Rattle.eon_model.proofs.GoodLaws.{some_units, legal-legs}
+use Rattle.eon_model.proofs.FirstRoutesFacts.{by_recursion}
 
 -- ---- a walk uses no fibre twice
 
@@ -70,14 +71,6 @@ module _ (fibres : List Fibre) where
       (subst (λ (o : Option (List ℕ)). visits_once o t ≡ true) whole.1 h)).1
 
 -- ---- the groups of a route
-
-all_of : {X : Type 0} (P : X → Type 0) (xs : List X) → AllByRecursion P xs → AllOf P xs
-all_of P [] a = tt
-all_of P (x ∷ xs) a = (a.0, all_of P xs a.1)
-
-by_all : {X : Type 0} (P : X → Type 0) (xs : List X) → AllOf P xs → AllByRecursion P xs
-by_all P [] a = tt
-by_all P (x ∷ xs) a = (a.0, by_all P xs a.1)
 
 named_below : (n fibre most : ℕ) (gs : List Group) → n + length gs < most + 1 →
     AllOf (λ g. g < most) (groups_with n fibre gs)
@@ -186,13 +179,13 @@ module _ (setup : Setup) (ok : is_setup setup ≡ true) where
     all_take = legal-legs setup LegTakes leg_takes state legal
 
     pub lit_in_range : AllByRecursion IsInRange (lit_holdings state)
-    lit_in_range = by_all IsInRange (lit_holdings state)
+    lit_in_range = by_recursion IsInRange (lit_holdings state)
         (all_flat IsInRange lit_by LegTakes lit_taken (all_legs state) all_take)
 
     pub held_in_range : AllByRecursion IsInRange (shared_backups state)
-    held_in_range = by_all IsInRange (shared_backups state)
+    held_in_range = by_recursion IsInRange (shared_backups state)
         (all_flat IsInRange held_by LegTakes held_taken (all_legs state) all_take)
 
     pub reserves_in_range : AllByRecursion IsReservedInRange (reserves state)
-    reserves_in_range = by_all IsReservedInRange (reserves state)
+    reserves_in_range = by_recursion IsReservedInRange (reserves state)
         (all_flat IsReservedInRange reserves_by LegTakes reserve_taken (all_legs state) all_take)

@@ -19,7 +19,7 @@ some_is x y e = cc
 
 -- ---- numbers
 
-positive_formed : (n : ℕ) (ds : List ℕ) → 0 < n → Spells n ds → is_number ds ≡ true
+pub positive_formed : (n : ℕ) (ds : List ℕ) → 0 < n → Spells n ds → is_number ds ≡ true
 positive_formed n ds h s =
     let tail = (and_parts (is_digit s.first) (list_all is_digit s.rest) (sym (ap (list_all is_digit) s.is) ∙ s.digits)).1 in
     ap is_number s.is ∙ or_right (bytes_eq (s.first ∷ s.rest) (codes "0")) _ (and_from _ _ (s.lead h) tail)

@@ -10,12 +10,9 @@ use Rattle.eon_model.specs.Grid.{Units, Band, is_units, parts_ascend, span_from,
 use Rattle.eon_model.proofs.BandLaws.{band-parts}
 use Rattle.flex_grid.specs.Makes.{units_from, leaves_room_for, band_with, band_from}
 use Rattle.flex_grid.specs.Padded.{blank, IsPadded}
+use Rattle.eon_model.proofs.SpanLaws.{span-lo}
 
 -- ---- ends
-
-span-lo : (part : Units) (parts : Band) → (span_from part parts).lo ≡ part.lo
-span-lo part [] = refl
-span-lo part (next ∷ parts) = refl
 
 last : (part : Units) (parts : Band) (i : ℕ) (q : Units) → i ≡ length parts →
     q ≡ slice_index_or (part ∷ parts) i q → (span_from part parts).hi ≡ q.hi

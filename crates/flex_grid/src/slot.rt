@@ -88,25 +88,3 @@ impl Slot {
         (193_100_000 + 6_250 * i32::from(self.n)) as u32
     }
 }
-
-#[cfg(test)]
-mod tests {
-    use super::*;
-
-    #[test]
-    fn moves_slots_and_tells_their_centre(rt: HostRuntime) {
-        for (n, mhz) in [
-            (0, 193_100_000),
-            (8, 193_150_000),
-            (-1, 193_093_750),
-            (4094, 218_687_500),
-        ] {
-            let slot = Slot::make(0, 2).and_then(|s| s.moved(n));
-            assert_eq!(rt;
-                slot.map(|s| (s.n(), s.m(), s.centre_mhz())),
-                Some((n, 2, mhz))
-            );
-        }
-        assert_eq!(rt; Slot::make(0, 2).and_then(|s| s.moved(4095)), None);
-    }
-}

@@ -11,8 +11,6 @@ pub mod leg;
 pub mod pair;
 pub mod service;
 pub mod services;
-#[cfg(test)]
-mod tests;
 pub mod view;
 
 pub use clash::{first_clash, first_clash_with};

@@ -15,7 +15,8 @@ use Rattle.net_graph.specs.declared.graph.GroupRow.{GroupRow}
 use Rattle.net_graph.specs.Graph.{is_graph, comes_after, with_node, with_fibre, holders}
 use Rattle.net_graph.specs.Rows.{row_fibre, group_seen, network_of, IsKept, IsCounted}
 use Rattle.net_graph.proofs.GraphParts.{parts_of, graph_from, length_rows}
-use Rattle.net_graph.proofs.NameOrder.{all_more, ascend-push, list_all-push}
+use Rattle.net_graph.proofs.NameOrder.{ascend-push, list_all-push}
+use Rattle.eon_model.proofs.ListTests.{all_more}
 
 -- ---- one more node
 

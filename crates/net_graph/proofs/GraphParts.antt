@@ -1,5 +1,5 @@
 -- What it is to be a graph, fact by fact.
-use Rattle.std.proofs.Common.{◌≡◌, refl, sym, ◌∙◌, ap, ℕ, ◌+◌, ◌<◌, ◌≤◌, nat_le, Bool, true, ◌&&◌, List, [], ◌∷◌, ◌++◌, length, map, arith, zero, suc, ◌-◌, get_or, zero-add}
+use Rattle.std.proofs.Common.{◌≡◌, refl, sym, ◌∙◌, ap, ℕ, ◌+◌, ◌<◌, ◌≤◌, nat_le, Bool, true, ◌&&◌, List, [], ◌∷◌, ◌++◌, length, map, arith, zero, suc, ◌-◌, get_or}
 use Rattle.std.specs.List.{list_all, range_with_len}
 use Rattle.std.proofs.lemmas.Bool.{and_parts, and_from, leb-true, le-leb}
 use Rattle.eon_model.specs.Names.{Name, is_name, ascend}
@@ -9,6 +9,7 @@ use Rattle.net_graph.specs.declared.graph.FibreRow.{FibreRow}
 use Rattle.net_graph.specs.declared.graph.GroupRow.{GroupRow}
 use Rattle.net_graph.specs.Graph.{is_graph}
 use Rattle.net_graph.specs.Rows.{row_fibre, row_names, group_seen, network_of}
+use Rattle.eon_model.proofs.NamePlaceLaws.{name_at-past}
 
 pub record GraphParts (net : Network) : Type 0 where
   pub nodes_few : length net.nodes ≤ 64
@@ -99,12 +100,6 @@ name_at-groups : (groups : List GroupRow) (j : ℕ) (d : GroupRow) → j < lengt
 name_at-groups [] j d l = absurd (omega arith)
 name_at-groups (g ∷ groups) zero d l = refl
 name_at-groups (g ∷ groups) (suc j) d l = name_at-groups groups j d (omega arith)
-
-name_at-past : (names more : List Name) (j : ℕ) → name_at (names ++ more) (length names + j) ≡ name_at more j
-name_at-past [] more j = ap (name_at more) (zero-add j)
-name_at-past (n ∷ names) more j =
-    let e : length (n ∷ names) + j ≡ suc (length names + j) = omega arith in
-    ap (name_at ((n ∷ names) ++ more)) e ∙ name_at-past names more j
 
 pub risk_name-fibre : (nodes : List Name) (rows : List FibreRow) (groups : List GroupRow) (i : ℕ)
     (d : FibreRow) → i < length rows → (get_or rows i d).fibre.name ≡ risk_name (network_of nodes rows groups) i

@@ -15,11 +15,11 @@ use Rattle.eon_model.specs.Names.{Name, name_cmp, is_above, same_name, has_name,
 use Rattle.eon_model.specs.Lists.{numbers_ascend}
 use Rattle.eon_model.specs.Network.{Group, number_of}
 use Rattle.eon_model.proofs.Members.{map-itself}
-use Rattle.eon_model.proofs.NumberLaws.{same-name}
+use Rattle.eon_model.proofs.NumberLaws.{same-name, lt-less}
 use Rattle.net_graph.specs.declared.graph.FibreRow.{FibreRow}
 use Rattle.net_graph.specs.Graph.{holders}
 use Rattle.net_graph.specs.Rows.{count_at, some_full_row, row_names, CountsGroups}
-use Rattle.net_graph.proofs.NameOrder.{key_less, lt-less}
+use Rattle.net_graph.proofs.NameOrder.{key_less}
 use Rattle.net_graph.proofs.FaultLemmas.{number-below}
 use Rattle.net_graph.proofs.RouteSums.{each_known}
 

@@ -1,9 +1,9 @@
 -- What one more group makes of the network that is kept.
 use Rattle.std.proofs.Common.{◌≡◌, refl, sym, ◌∙◌, ap, subst, inl, inr, ℕ, ◌+◌, ◌<◌, nat_eq, nat_lt, nat_le, Bool, true, false, cond, not, List, [], ◌∷◌, ◌++◌, length, map, get_or, arith, length-append, append-nil, zero-add, None}
-use Rattle.std.specs.List.{list_all, list_any, sum_by, range_with_len, AllByRecursion}
+use Rattle.std.specs.List.{list_all, list_any, sum_by, range_with_len}
 use Rattle.std.specs.Cmp.{nat_cmp_total}
 use Rattle.std.specs.FinSet.{insert, from_list_push, nat_cmp-IsAntisymmetric}
-use Rattle.std.proofs.lemmas.Bool.{and_from, lt-ltb, leb-true, leb-false, le-leb, or_parts, or_cases, eqb-true, false≢true}
+use Rattle.std.proofs.lemmas.Bool.{and_from, leb-true, leb-false, le-leb, or_parts, or_cases, eqb-true, false≢true}
 use Rattle.std.proofs.lemmas.List.{map-append}
 use Rattle.std.proofs.lemmas.List.Sums.{sum_by-append}
 use Rattle.eon_model.specs.Names.{Name, is_name, ascend}
@@ -18,10 +18,11 @@ use Rattle.net_graph.specs.declared.graph.GroupRow.{GroupRow}
 use Rattle.net_graph.specs.Graph.{is_graph, comes_after, with_group, group_fault, group_named, holders}
 use Rattle.net_graph.specs.Rows.{row_fibre, row_with, rows_with, few_groups, group_seen, network_of, IsKept, IsCounted}
 use Rattle.net_graph.proofs.GraphParts.{parts_of, graph_from, length_rows, length_groups}
-use Rattle.net_graph.proofs.NameOrder.{all_more, ascend-push, list_all-push}
+use Rattle.net_graph.proofs.NameOrder.{ascend-push, list_all-push}
 use Rattle.net_graph.proofs.RowLemmas.{get_or-rows_with, length-rows_with}
 use Rattle.net_graph.proofs.FaultLemmas.{group-accepts}
 use Rattle.net_graph.proofs.GroupLemmas.{numbers_below, numbers_rise, some_number}
+use Rattle.eon_model.proofs.ListTests.{all_more, list_all-below}
 
 -- ---- what the groups of a fibre are with one more
 
@@ -137,10 +138,6 @@ graph-with_group net g h few good after room =
           (λ i few_i. few_more net.groups g i (has_number g.fibres i) refl room few_i)
           (range_with_len 0 (length net.fibres)) p.groups_shared;
     })
-
-list_all-below : (n : ℕ) (is : List ℕ) → AllByRecursion (λ i. i < n) is → list_all (λ i. nat_lt i n) is ≡ true
-list_all-below n [] a = refl
-list_all-below n (i ∷ is) a = and_from (nat_lt i n) _ (lt-ltb i n a.0) (list_all-below n is a.1)
 
 -- what is accepted is a group of the network's fibres
 pub group-among : (net : Network) (name : Name) (fibres : List Name) → is_graph net ≡ true →

@@ -7,13 +7,13 @@ use Rattle.std.specs.declared.cmp.Ordering.TheVariants.{Less, Equal, Greater}
 use Rattle.std.specs.Ordering.{nat_cmp, is_lt, is_some_and, ordering_index}
 use Rattle.std.specs.Cmp.{tied_itself}
 use Rattle.std.specs.Cmp.Lexicographic.{slice_partial_cmp, lists_agrees, nat_list_cmp_total}
-use Rattle.std.proofs.lemmas.Bool.{and_parts, and_from, cases_lt, and_right, both_ways, false_from_ne_true, false≢true}
+use Rattle.std.proofs.lemmas.Bool.{and_parts, and_from, cases_lt, and_right, both_ways, false_from_ne_true}
 use Rattle.std.proofs.lemmas.List.{take_more, take-append-drop}
 use Rattle.std.proofs.lemmas.List.Quantifiers.{position-Some}
 use Rattle.eon_model.specs.Names.{Name, name_cmp, is_above, same_name, ascend}
 use Rattle.eon_model.specs.Network.{name_at, number_of}
 use Rattle.eon_model.proofs.Members.{map-itself}
-use Rattle.eon_model.proofs.NumberLaws.{name_cmp_exact, same-name}
+use Rattle.eon_model.proofs.NumberLaws.{name_cmp_exact, same-name, lt-less}
 use Rattle.eon_model.proofs.NamePlaceLaws.{number_of-name_at}
 use Rattle.net_graph.specs.Graph.{comes_after}
 use Rattle.eon_model.proofs.SetLists.{same_test}
@@ -43,11 +43,6 @@ after_none key (y ∷ z ∷ ys) name e =
 
 -- ---- one more name
 
-pub lt-less : (o : Ordering) → is_lt o ≡ true → o ≡ Less
-lt-less Less e = refl
-lt-less Equal e = absurd (false≢true e)
-lt-less Greater e = absurd (false≢true e)
-
 above_trans : (a b c : Name) → is_above b a ≡ true → is_above c b ≡ true → is_above c a ≡ true
 above_trans a b c up more =
     ap is_lt (nat_list_cmp_total.trans a b c (lt-less (name_cmp a b) up) (lt-less (name_cmp b c) more))
@@ -69,13 +64,6 @@ after_all [] x h = refl
 after_all (a ∷ []) x h = (and_parts (is_above x a) true h).0
 after_all (a ∷ b ∷ names) x h =
     after_all (b ∷ names) x (and_parts (is_above x a) (list_all (λ y. is_above x y) (b ∷ names)) h).1
-
-pub all_more : {X : Type 0} (p q : X → Bool) → ((x : X) → p x ≡ true → q x ≡ true) → (xs : List X) →
-    list_all p xs ≡ true → list_all q xs ≡ true
-all_more p q more [] h = refl
-all_more p q more (x ∷ xs) h =
-    let parts = and_parts (p x) (list_all p xs) h in
-    and_from (q x) (list_all q xs) (more x parts.0) (all_more p q more xs parts.1)
 
 pub list_all-push : {X : Type 0} (p : X → Bool) (xs : List X) (x : X) → list_all p xs ≡ true → p x ≡ true →
     list_all p (xs ++ x ∷ []) ≡ true

@@ -11,9 +11,9 @@ use Rattle.eon_model.specs.Network.{Fibre}
 use Rattle.eon_model.specs.Route.{nodes_along, ends_at, visits_once, walks}
 use Rattle.eon_model.specs.Sets.{NumberSet}
 use Rattle.net_graph.specs.Walks.{node_after}
-use Rattle.net_graph.proofs.NameOrder.{all_more}
 use Rattle.eon_model.proofs.SetLaws.{member-insert}
 use Rattle.eon_model.proofs.SetLists.{same_test}
+use Rattle.eon_model.proofs.ListTests.{all_more}
 
 -- whether the fibres lead on from the node to t through nodes that are not in the set
 abbrev pub goes : List Fibre → NumberSet → ℕ → ℕ → List ℕ → Bool

@@ -9,8 +9,6 @@ mod named;
 pub mod route;
 pub mod route_list;
 pub mod sets;
-#[cfg(test)]
-mod tests;
 pub mod walk;
 
 pub use builder::NetBuilder;

@@ -24,11 +24,7 @@ use Rattle.plan_report.specs.declared.rows.Kind.{Kind}
 use Rattle.plan_report.specs.declared.rows.Kind.TheVariants.{Lit, Held}
 use Rattle.eon_model.proofs.SetupFacts.{setup-facts}
 use Rattle.plan_report.specs.Counted.{taken, taken_by, service_holdings, state_holdings, holders, Grows, AtMost}
-
-pub same_tests : (a b : Bool) → (a ≡ true → b ≡ true) → (b ≡ true → a ≡ true) → a ≡ b
-same_tests true b f g = sym (f refl)
-same_tests false true f g = g refl
-same_tests false false f g = refl
+use Rattle.eon_model.proofs.SetLists.{same_test}
 
 -- the units of a range, by their places from the lowest on
 pub span_test : (u : Units) (low : ℤ) (len k from to : ℕ) → k < len →
@@ -36,10 +32,10 @@ pub span_test : (u : Units) (low : ℤ) (len k from to : ℕ) → k < len →
     pos to ≡ int_min (int_max ((u.hi +ℤ pos 1) -ℤ low) (pos 0)) (pos len) →
     has_unit u (low +ℤ pos k) ≡ (nat_le from k && nat_lt k to)
 span_test u low len k from to h a b =
-    let first = same_tests (int_le u.lo (low +ℤ pos k)) (nat_le from k)
+    let first = same_test (int_le u.lo (low +ℤ pos k)) (nat_le from k)
     (λ e. let le = int_le-le u.lo (low +ℤ pos k) e in le-leb from k (omega (arith, ints, clamps)))
     (λ e. let le = leb-true from k e in le-int_le u.lo (low +ℤ pos k) (omega (arith, ints, clamps))) in
-    let last = same_tests (int_le (low +ℤ pos k) u.hi) (nat_lt k to)
+    let last = same_test (int_le (low +ℤ pos k) u.hi) (nat_lt k to)
     (λ e. let le = int_le-le (low +ℤ pos k) u.hi e in lt-ltb k to (omega (arith, ints, clamps)))
     (λ e. let lt = ltb-true k to e in le-int_le (low +ℤ pos k) u.hi (omega (arith, ints, clamps))) in
     λ i. first i && last i
@@ -207,37 +203,3 @@ few_services setup state h l =
     let few = (Legal-parts setup state l).few in
     let most = (setup-facts setup h).few_services in
     omega arith
-
--- ---- the units of a band
-
-span_order : (part : Units) (parts : List Units) → list_all is_units (part ∷ parts) ≡ true →
-    parts_ascend (part ∷ parts) ≡ true → part.lo ≤ℤ (span_from part parts).hi
-span_order part [] units ascend = (units-facts part (and_parts (is_units part) true units).0).order
-span_order part (next ∷ parts) units ascend =
-    let a = and_parts (is_units part) (list_all is_units (next ∷ parts)) units in
-    let b = and_parts (int_le (part.hi +ℤ pos 2) next.lo) (parts_ascend (next ∷ parts)) ascend in
-    let here = (units-facts part a.0).order in
-    let gap = int_le-le (part.hi +ℤ pos 2) next.lo b.0 in
-    let more = span_order next parts a.1 b.1 in
-    omega (arith, ints)
-
-span_lo : (part : Units) (parts : List Units) → (span_from part parts).lo ≡ part.lo
-span_lo part [] = refl
-span_lo part (next ∷ parts) = refl
-
--- Its span holds one unit or more, and at most 1,024.
-pub record SpanFacts (u : Units) : Type 0 where
-  pub order : u.lo ≤ℤ u.hi
-  pub wide : (u.hi -ℤ u.lo) ≤ℤ pos 1023
-
-pub span_facts : (band : Band) → is_band band ≡ true → SpanFacts (span_of band)
-span_facts [] h = absurd (false≢true h)
-span_facts (part ∷ parts) h =
-    let b : Band = part ∷ parts in
-    let facts = band-parts b h in
-    let wide = and_parts (nat_le 1 (length b) && nat_le (length b) 8 && list_all is_units b && parts_ascend b)
-    (int_le ((span_of b).hi -ℤ (span_of b).lo) (pos 1023)) h in
-    record {
-      order = let e = span_order part parts facts.units facts.ascend in let l = span_lo part parts in omega (arith, ints);
-      wide = int_le-le ((span_of b).hi -ℤ (span_of b).lo) (pos 1023) wide.1;
-    }

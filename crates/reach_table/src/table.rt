@@ -207,22 +207,3 @@ pub fn need(table: &Table, rate: u32, km: u32) -> Option<u16>
     let row = table.row(table.pick(km)?);
     Some(rate.div_ceil(u32::from(row.per)) as u16 + guard)
 }
-
-#[cfg(test)]
-mod tests {
-    use super::*;
-    use std::test::Fail;
-
-    // What no clause says: with ample memory a row is added.
-    #[test]
-    fn a_row_is_added(rt: HostRuntime) -> Result<(), Fail> {
-        let mut table = Table::new(rt.alloc(), 1);
-        table.add(Format {
-            name: Name::read(b"qpsk")?,
-            reach: 2000,
-            per: 50,
-        })?;
-        assert_eq!(rt; need(&table, 100, 2000), Some(3));
-        Ok(())
-    }
-}

@@ -1,14 +1,14 @@
 use Rattle.std.proofs.Common.{arith}
 use Rattle.std.proofs.lemmas.Int.{ints}
-use Rattle.plan_report.proofs.CountLemmas.{span_facts}
+use Rattle.eon_model.proofs.SpanLaws.{span-facts}
 use Rattle.plan_report.proofs.rows.band_units.Goals as goal
 
 pub overflow_cast-result : goal.overflow_cast-result
 overflow_cast-result c =
-    let f = span_facts c.args.band.now c.hi.ensures.valid in
+    let f = span-facts c.args.band.now c.hi.ensures.valid in
     (omega (arith, ints), omega (arith, ints))
 
 pub returns-clause-few : goal.returns-clause-few
 returns-clause-few c =
-    let f = span_facts c.args.band.now c.hi.ensures.valid in
+    let f = span-facts c.args.band.now c.hi.ensures.valid in
     omega (arith, ints)
