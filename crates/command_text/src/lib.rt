@@ -10,8 +10,6 @@ pub mod laws;
 mod part;
 mod printing;
 mod reading;
-#[cfg(test)]
-mod tests;
 mod verb;
 
 pub use command::{BackWords, Command, LineFault};

@@ -11,6 +11,3 @@ pub mod real_file;
 pub use disk::{Deck, Disk, DiskFailed};
 pub use disk_in_memory::{Fill, MemDisk};
 pub use real_file::FileDeck;
-
-#[cfg(test)]
-mod tests;

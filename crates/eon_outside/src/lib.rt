@@ -22,6 +22,3 @@ pub use real_files::FileShelf;
 pub use real_output::StdoutSink;
 pub use whole_file::{ReadEnd, ReadFault, read_up_to};
 pub use writing::{Sink, write_all};
-
-#[cfg(test)]
-mod tests;

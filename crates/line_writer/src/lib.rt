@@ -4,8 +4,6 @@
 
 pub mod memory_text;
 pub mod sink_text;
-#[cfg(test)]
-mod tests;
 pub mod text_sink;
 pub mod words;
 

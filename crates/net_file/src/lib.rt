@@ -12,8 +12,6 @@ mod lines;
 mod parts;
 mod printing;
 pub mod reading;
-#[cfg(test)]
-mod tests;
 mod word;
 
 pub use fault::{NetFault, NetRefusal, Why};

@@ -230,6 +230,3 @@ fn drive_words<'a>(net: &'a str, seed: &str, count: &str) -> Option<Words<'a>>
         count: count as u32,
     })
 }
-
-#[cfg(test)]
-mod tests;
