@@ -84,6 +84,12 @@ pub not_between : (first end i : ℕ) → (first ≤ i → i < end → ⊥) → 
 not_between first end i never = false_from_ne_true (is_between first end i) λ h.
     let p = between-facts first end i h in never p.0 p.1
 
+pub below_range : (first end i : ℕ) → i < first → is_between first end i ≡ false
+below_range first end i h = not_between first end i (λ p q. absurd (omega (arith, h, p)))
+
+pub past_range : (first end i : ℕ) → end ≤ i → is_between first end i ≡ false
+past_range first end i h = not_between first end i (λ p q. absurd (omega (arith, h, q)))
+
 -- a range, seen from the word of this number
 pub between_word : (word first end k : ℕ) → k < 64 →
     is_between (first - 64 * word) (min (end - 64 * word) 64) k ≡ is_between first end (64 * word + k)

@@ -12,8 +12,9 @@ use Rattle.eon_model.proofs.GridLaws.{lies_in-facts}
 use Rattle.eon_model.proofs.UnitLaws.{all-at, all-from, not_any, count_end, count_back}
 use Rattle.eon_model.proofs.TopTaken.{top_is, top_unique}
 use Rattle.spectrum_map.specs.Bits.{is_one, word_bit, bit_of, bit_of_either, AreHeld, IsHighestOf}
-use Rattle.spectrum_map.specs.Kept.{place_of, index_of, is_kept, bit_at_unit, count_at_unit, words_for}
+use Rattle.spectrum_map.specs.Kept.{place_of, index_of, is_unit_that, is_kept, bit_at_unit, count_at_unit, words_for}
 use Rattle.spectrum_map.proofs.BitLaws.{between-facts, facts-between, none_of_zero}
+use Rattle.spectrum_map.proofs.WordLaws.{whole_place}
 use Rattle.eon_model.proofs.SpanLaws.{SpanFacts}
 use Rattle.spectrum_map.proofs.SpanLaws.{unit-facts, facts-unit, unit_at, place_in}
 
@@ -143,6 +144,25 @@ module _ (band : Band) (fibres : ℕ) (words : List ℕ) (span : SpanFacts (span
     where
       short : words_for band ≤ j → length row ≤ j
       short far = let e = length-take (words_for band) (drop (16 * g) words) in omega (arith, e, far)
+
+-- ---- a row
+
+-- the unit of a place, told by its word and bit
+pub told_place : (band : Band) (test : ℤ → Bool) (i : ℕ) →
+    (nat_lt (64 * (i / 64) + i % 64) (unit_count (span_of band)) && test ((span_of band).lo +ℤ pos (64 * (i / 64) + i % 64)))
+    ≡ is_unit_that band test i
+told_place band test i = ap (is_unit_that band test) (whole_place i)
+
+-- marked by one test or by the other
+pub either_unit : (b : Bool) (band : Band) (f g : ℤ → Bool) (i : ℕ) →
+    ((b || is_unit_that band f i) || is_unit_that band g i) ≡ (b || is_unit_that band (λ u. f u || g u) i)
+either_unit b band f g i =
+    by b (nat_lt i (unit_count (span_of band))) (f ((span_of band).lo +ℤ pos i)) (g ((span_of band).lo +ℤ pos i))
+  where
+    by : (b n x y : Bool) → ((b || (n && x)) || (n && y)) ≡ (b || (n && (x || y)))
+    by true n x y = refl
+    by false true x y = refl
+    by false false x y = refl
 
 -- ---- the top
 

@@ -1,26 +1,45 @@
--- Ranges of bits over many words: what a walk over the words has done so far.
+-- Bits over many words: what a walk over the words has done so far with a range of places.
 use Rattle.std.proofs.Common.{◌≡◌, refl, sym, ◌∙◌, ap, subst, ℕ, ◌+◌, ◌*◌, ◌/◌, ◌%◌, ◌^◌, ◌<◌, ◌≤◌, arith, inl, inr, Bool, true, false, ◌&&◌, ◌||◌, not, List, length, get_or, set, bit_and, bit_or, w64}
 use Rattle.std.specs.Prelude.{nat_lt}
 use Rattle.std.specs.Int.{bit_not}
-use Rattle.std.proofs.lemmas.Bool.{cases_lt, cases_eq, and_parts, and_from, lt-ltb, ltb-true, le-ltb, false_from_ne_true}
-use Rattle.std.proofs.lemmas.List.{get_or-set_same, get_or-set_other}
-use Rattle.eon_model.proofs.SetLists.{same_test}
-use Rattle.spectrum_map.specs.Bits.{is_one, word_bit, bit_of, is_between}
-use Rattle.spectrum_map.proofs.BitLaws.{one_or, one_and, one_not, lt_alike, between-facts}
+use Rattle.std.proofs.lemmas.Bool.{cases_lt, cases_eq, lt-ltb, le-ltb}
+use Rattle.std.proofs.lemmas.List.{get_or-set_same, get_or-set_other, get_or_past}
+use Rattle.spectrum_map.specs.Bits.{is_one, word_bit, bit_of}
+use Rattle.spectrum_map.proofs.BitLaws.{one_or, one_and, one_not, none_of_zero, lt_alike}
 
--- whether the bit lies in the range and in a word before this one
-abbrev pub is_done : ℕ → ℕ → ℕ → ℕ → ℕ → Bool
-is_done w first end j k = nat_lt j w && is_between first end (64 * j + k)
+-- ---- one place
+
+pub in_word : (i : ℕ) → i % 64 < 64
+in_word i = omega arith
+
+pub whole_place : (i : ℕ) → 64 * (i / 64) + i % 64 ≡ i
+whole_place i = omega arith
+
+pub bit_at_place : (words : List ℕ) (w k : ℕ) → k < 64 → word_bit words w k ≡ bit_of words (64 * w + k)
+bit_at_place words w k l =
+    let word : w ≡ (64 * w + k) / 64 = omega (arith, l) in
+    let bit : k ≡ (64 * w + k) % 64 = omega (arith, l) in
+    λ i. is_one (get_or words (word i) 0) (bit i)
+
+-- past the last word no bit is 1
+pub bit_past : (words : List ℕ) (i : ℕ) → 64 * length words ≤ i → bit_of words i ≡ false
+bit_past words i h =
+    ap (λ w. is_one w (i % 64)) (get_or_past words (i / 64) 0 (omega arith)) ∙ none_of_zero (i % 64)
+
+-- ---- the places of a walk
+
+-- whether the place is one of the range, and lies in a word before this one
+abbrev pub is_done : ℕ → (ℕ → Bool) → ℕ → ℕ → Bool
+is_done w range j k = nat_lt j w && range (64 * j + k)
 
 -- the words before this one have the bits of the range set
-abbrev pub SetTo : List ℕ → List ℕ → ℕ → ℕ → ℕ → Type 0
-SetTo before now w first end =
-    (j k : ℕ) → k < 64 → word_bit now j k ≡ (word_bit before j k || is_done w first end j k)
+abbrev pub SetTo : List ℕ → List ℕ → ℕ → (ℕ → Bool) → Type 0
+SetTo before now w range = (j k : ℕ) → k < 64 → word_bit now j k ≡ (word_bit before j k || is_done w range j k)
 
 -- or cleared
-abbrev pub ClearedTo : List ℕ → List ℕ → ℕ → ℕ → ℕ → Type 0
-ClearedTo before now w first end =
-    (j k : ℕ) → k < 64 → word_bit now j k ≡ (word_bit before j k && not (is_done w first end j k))
+abbrev pub ClearedTo : List ℕ → List ℕ → ℕ → (ℕ → Bool) → Type 0
+ClearedTo before now w range =
+    (j k : ℕ) → k < 64 → word_bit now j k ≡ (word_bit before j k && not (is_done w range j k))
 
 or_false : (a b : Bool) → b ≡ false → a ≡ (a || b)
 or_false true b e = refl
@@ -30,65 +49,69 @@ and_not_false : (a b : Bool) → b ≡ false → a ≡ (a && not b)
 and_not_false true b e = ap not (sym e)
 and_not_false false b e = refl
 
--- nothing is done before the range begins
-none_done : (w first end j k : ℕ) → 64 * w ≤ first → k < 64 → is_done w first end j k ≡ false
-none_done w first end j k h l = false_from_ne_true (is_done w first end j k) λ d.
-    let p = and_parts (nat_lt j w) (is_between first end (64 * j + k)) d in
-    let before = ltb-true j w p.0 in
-    let at = (between-facts first end (64 * j + k) p.1).0 in
-    absurd (omega arith)
+module _ (w : ℕ) (range : ℕ → Bool) where
+  -- nothing is done before the range begins
+  none_done : ((i : ℕ) → i < 64 * w → range i ≡ false) → (j k : ℕ) → k < 64 → is_done w range j k ≡ false
+  none_done none j k l = elim (cases_lt j w) [
+    | inl less ↦ (λ i. nat_lt j w && none (64 * j + k) (omega (arith, less, l)) i) ∙ never (nat_lt j w)
+    | inr more ↦ ap (λ b. b && range (64 * j + k)) (le-ltb j w more)
+  ]
+    where
+      never : (a : Bool) → (a && false) ≡ false
+      never true = refl
+      never false = refl
 
-pub set_start : (words : List ℕ) (w first end : ℕ) → 64 * w ≤ first → SetTo words words w first end
-set_start words w first end h j k l = or_false (word_bit words j k) _ (none_done w first end j k h l)
+  pub set_start : (words : List ℕ) → ((i : ℕ) → i < 64 * w → range i ≡ false) → SetTo words words w range
+  set_start words none j k l = or_false (word_bit words j k) _ (none_done none j k l)
 
-pub cleared_start : (words : List ℕ) (w first end : ℕ) → 64 * w ≤ first → ClearedTo words words w first end
-cleared_start words w first end h j k l = and_not_false (word_bit words j k) _ (none_done w first end j k h l)
+  pub cleared_start : (words : List ℕ) → ((i : ℕ) → i < 64 * w → range i ≡ false) → ClearedTo words words w range
+  cleared_start words none j k l = and_not_false (word_bit words j k) _ (none_done none j k l)
 
--- all is done past the range
-done_all : (w first end i : ℕ) → end ≤ 64 * w → is_done w first end (i / 64) (i % 64) ≡ is_between first end i
-done_all w first end i h =
-    let whole : 64 * (i / 64) + i % 64 ≡ i = omega arith in
-    ap (λ n. nat_lt (i / 64) w && is_between first end n) whole
-    ∙ same_test _ _ (λ d. (and_parts (nat_lt (i / 64) w) (is_between first end i) d).1)
-    (λ b. let last = (between-facts first end i b).1 in and_from _ _ (lt-ltb (i / 64) w (omega arith)) b)
+  -- a place is done where no later word has one of the range
+  done_all : (i : ℕ) → (64 * w ≤ i → range i ≡ false) → is_done w range (i / 64) (i % 64) ≡ range i
+  done_all i none = ap (λ n. nat_lt (i / 64) w && range n) (whole_place i) ∙ elim (cases_lt (i / 64) w) [
+    | inl less ↦ ap (λ b. b && range i) (lt-ltb (i / 64) w less)
+    | inr more ↦ ap (λ b. b && range i) (le-ltb (i / 64) w more) ∙ sym (none (omega (arith, more)))
+  ]
 
-in_word : (i : ℕ) → i % 64 < 64
-in_word i = omega arith
+  pub set_end : (before now : List ℕ) → SetTo before now w range → (i : ℕ) → (64 * w ≤ i → range i ≡ false) →
+      bit_of now i ≡ (bit_of before i || range i)
+  set_end before now s i none = s (i / 64) (i % 64) (in_word i) ∙ ap (λ b. bit_of before i || b) (done_all i none)
 
-pub set_end : (before now : List ℕ) (w first end : ℕ) → end ≤ 64 * w → SetTo before now w first end → (i : ℕ) →
-    bit_of now i ≡ (bit_of before i || is_between first end i)
-set_end before now w first end h s i =
-    s (i / 64) (i % 64) (in_word i) ∙ ap (λ b. bit_of before i || b) (done_all w first end i h)
+  pub cleared_end : (before now : List ℕ) → ClearedTo before now w range → (i : ℕ) → (64 * w ≤ i → range i ≡ false) →
+      bit_of now i ≡ (bit_of before i && not (range i))
+  cleared_end before now s i none =
+      s (i / 64) (i % 64) (in_word i) ∙ ap (λ b. bit_of before i && not b) (done_all i none)
 
-pub cleared_end : (before now : List ℕ) (w first end : ℕ) → end ≤ 64 * w → ClearedTo before now w first end →
-    (i : ℕ) → bit_of now i ≡ (bit_of before i && not (is_between first end i))
-cleared_end before now w first end h s i =
-    s (i / 64) (i % 64) (in_word i) ∙ ap (λ b. bit_of before i && not b) (done_all w first end i h)
+  -- words from this one on are as before
+  pub not_yet_set : (before now : List ℕ) → SetTo before now w range → (j k : ℕ) → k < 64 → w ≤ j →
+      word_bit now j k ≡ word_bit before j k
+  not_yet_set before now s j k l h =
+      s j k l ∙ sym (or_false (word_bit before j k) _ (ap (λ b. b && range (64 * j + k)) (le-ltb j w h)))
 
 -- ---- one word more
 
-done_here : (w first end k : ℕ) → is_done (w + 1) first end w k ≡ is_between first end (64 * w + k)
-done_here w first end k = ap (λ b. b && is_between first end (64 * w + k)) (lt-ltb w (w + 1) (omega arith))
+module _ (before now : List ℕ) (w : ℕ) (range : ℕ → Bool) (m : ℕ) (within : w < length now)
+    (mask : (k : ℕ) → k < 64 → is_one m k ≡ range (64 * w + k)) where
+  done_here : (k : ℕ) → is_done (w + 1) range w k ≡ range (64 * w + k)
+  done_here k = ap (λ b. b && range (64 * w + k)) (lt-ltb w (w + 1) (omega arith))
 
-undone_here : (w first end k : ℕ) → is_done w first end w k ≡ false
-undone_here w first end k = ap (λ b. b && is_between first end (64 * w + k)) (le-ltb w w (omega arith))
+  undone_here : (k : ℕ) → is_done w range w k ≡ false
+  undone_here k = ap (λ b. b && range (64 * w + k)) (le-ltb w w (omega arith))
 
-done_elsewhere : (w first end j k : ℕ) → (j ≡ w → ⊥) → is_done w first end j k ≡ is_done (w + 1) first end j k
-done_elsewhere w first end j k other = ap (λ b. b && is_between first end (64 * j + k))
-    (lt_alike j w j (w + 1) (λ h. omega arith) (λ h. elim (cases_lt j w) [
-      | inl less ↦ less
-      | inr more ↦ absurd (other (omega arith))
-    ]))
+  done_elsewhere : (j k : ℕ) → (j ≡ w → ⊥) → is_done w range j k ≡ is_done (w + 1) range j k
+  done_elsewhere j k other = ap (λ b. b && range (64 * j + k))
+      (lt_alike j w j (w + 1) (λ h. omega arith) (λ h. elim (cases_lt j w) [
+        | inl less ↦ less
+        | inr more ↦ absurd (other (omega arith))
+      ]))
 
-module _ (before now : List ℕ) (w first end m : ℕ) (within : w < length now)
-    (mask : (k : ℕ) → k < 64 → is_one m k ≡ is_between first end (64 * w + k)) where
-  pub set_step : SetTo before now w first end →
-      SetTo before (set now w (bit_or (get_or now w 0) m)) (w + 1) first end
+  pub set_step : SetTo before now w range → SetTo before (set now w (bit_or (get_or now w 0) m)) (w + 1) range
   set_step s j k l = elim (cases_eq j w) [
     | inl here ↦ subst (λ (n : ℕ). word_bit (set now w (bit_or (get_or now w 0) m)) n k
-        ≡ (word_bit before n k || is_done (w + 1) first end n k)) (sym here) at
+        ≡ (word_bit before n k || is_done (w + 1) range n k)) (sym here) at
     | inr other ↦ ap (λ n. is_one n k) (get_or-set_other now w j (bit_or (get_or now w 0) m) 0 other)
-        ∙ s j k l ∙ ap (λ b. word_bit before j k || b) (done_elsewhere w first end j k other)
+        ∙ s j k l ∙ ap (λ b. word_bit before j k || b) (done_elsewhere j k other)
   ]
     where
       nothing : (a b : Bool) → b ≡ false → (a || b) ≡ a
@@ -96,19 +119,19 @@ module _ (before now : List ℕ) (w first end m : ℕ) (within : w < length now)
       nothing false b e = e
 
       at : word_bit (set now w (bit_or (get_or now w 0) m)) w k
-          ≡ (word_bit before w k || is_done (w + 1) first end w k)
+          ≡ (word_bit before w k || is_done (w + 1) range w k)
       at = ap (λ n. is_one n k) (get_or-set_same now w (bit_or (get_or now w 0) m) 0 within)
           ∙ one_or (get_or now w 0) m k
-          ∙ (λ i. (s w k l ∙ nothing (word_bit before w k) _ (undone_here w first end k)) i || mask k l i)
-          ∙ ap (λ b. word_bit before w k || b) (sym (done_here w first end k))
+          ∙ (λ i. (s w k l ∙ nothing (word_bit before w k) _ (undone_here k)) i || mask k l i)
+          ∙ ap (λ b. word_bit before w k || b) (sym (done_here k))
 
-  pub cleared_step : m < 2 ^ 64 → ClearedTo before now w first end →
-      ClearedTo before (set now w (bit_and (get_or now w 0) (bit_not w64 m))) (w + 1) first end
+  pub cleared_step : m < 2 ^ 64 → ClearedTo before now w range →
+      ClearedTo before (set now w (bit_and (get_or now w 0) (bit_not w64 m))) (w + 1) range
   cleared_step small s j k l = elim (cases_eq j w) [
     | inl here ↦ subst (λ (n : ℕ). word_bit (set now w (bit_and (get_or now w 0) (bit_not w64 m))) n k
-        ≡ (word_bit before n k && not (is_done (w + 1) first end n k))) (sym here) at
+        ≡ (word_bit before n k && not (is_done (w + 1) range n k))) (sym here) at
     | inr other ↦ ap (λ n. is_one n k) (get_or-set_other now w j (bit_and (get_or now w 0) (bit_not w64 m)) 0 other)
-        ∙ s j k l ∙ ap (λ b. word_bit before j k && not b) (done_elsewhere w first end j k other)
+        ∙ s j k l ∙ ap (λ b. word_bit before j k && not b) (done_elsewhere j k other)
   ]
     where
       nothing : (a b : Bool) → b ≡ false → (a && not b) ≡ a
@@ -116,9 +139,9 @@ module _ (before now : List ℕ) (w first end m : ℕ) (within : w < length now)
       nothing false b e = refl
 
       at : word_bit (set now w (bit_and (get_or now w 0) (bit_not w64 m))) w k
-          ≡ (word_bit before w k && not (is_done (w + 1) first end w k))
+          ≡ (word_bit before w k && not (is_done (w + 1) range w k))
       at = ap (λ n. is_one n k) (get_or-set_same now w (bit_and (get_or now w 0) (bit_not w64 m)) 0 within)
           ∙ one_and (get_or now w 0) (bit_not w64 m) k
           ∙ ap (λ b. is_one (get_or now w 0) k && b) (one_not m k small l)
-          ∙ (λ i. (s w k l ∙ nothing (word_bit before w k) _ (undone_here w first end k)) i && not (mask k l i))
-          ∙ ap (λ b. word_bit before w k && not b) (sym (done_here w first end k))
+          ∙ (λ i. (s w k l ∙ nothing (word_bit before w k) _ (undone_here k)) i && not (mask k l i))
+          ∙ ap (λ b. word_bit before w k && not b) (sym (done_here k))

@@ -35,6 +35,11 @@ abbrev pub IsHighestOf : (ℕ → Bool) → ℕ → ℕ → Option ℕ → Type 
 IsHighestOf test first end None = (i : ℕ) → first ≤ i → i < end → test i ≡ false
 IsHighestOf test first end (Some top) = IsHighest test first end top
 
+-- It tells whether no number of the range passes the test.
+pub record TellsClear (test : ℕ → Bool) (first end : ℕ) (told : Bool) : Type 0 where
+  pub none : told ≡ true → (i : ℕ) → first ≤ i → i < end → test i ≡ false
+  pub some : told ≡ false → (i : ℕ) × ((first ≤ i) × ((i < end) × (test i ≡ true)))
+
 -- whether a bit is 1 in one of both
 abbrev pub bit_of_either : List ℕ → List ℕ → ℕ → Bool
 bit_of_either a b i = bit_of a i || bit_of b i

@@ -1,6 +1,6 @@
 -- What is kept of the spectrum of a network: for each unit of the band on each fibre, whether it is lit, and how many
 -- backups hold it.
-use Rattle.std.specs.Prelude.{◌≡◌, ℕ, ◌+◌, ◌*◌, ◌/◌, ◌%◌, ◌<◌, ◌≤◌, nat_abs, nat_lt, ℤ, ◌-ℤ◌, Bool, false, ◌&&◌, IsTrue, List, length, slice_index_or, if◌then◌else◌}
+use Rattle.std.specs.Prelude.{◌≡◌, ℕ, ◌+◌, ◌*◌, ◌/◌, ◌%◌, ◌<◌, ◌≤◌, nat_abs, nat_lt, ℤ, pos, ◌+ℤ◌, ◌-ℤ◌, ◌≤ℤ◌, Bool, false, ◌&&◌, IsTrue, List, length, slice_index_or, if◌then◌else◌}
 use Rattle.std.specs.List.{AllByRecursion}
 use Rattle.eon_model.specs.Grid.{Band, Units, has_unit, lies_in, span_of, unit_count, is_band}
 use Rattle.eon_model.specs.Lists.{numbers_differ}
@@ -16,6 +16,19 @@ place_of band u = nat_abs (u -ℤ (span_of band).lo)
 -- the place of a fibre's unit, in rows of 1,024 places
 abbrev pub index_of : Band → ℕ → ℤ → ℕ
 index_of band fibre u = 1024 * fibre + place_of band u
+
+-- There are units of a band, and their places in a row are those from first up to and without end.
+pub record ArePlaces (band : Band) (units : Units) (first end : ℕ) : Type 0 where
+  pub band_is : IsTrue (is_band band)
+  pub some : units.lo ≤ℤ units.hi
+  pub first_is : first ≡ place_of band units.lo
+  pub end_is : end ≡ place_of band units.lo + unit_count units
+  pub order : first ≤ end
+  pub few : end ≤ 1024
+
+-- whether the place is that of a unit of the band's span which passes the test
+abbrev pub is_unit_that : Band → (ℤ → Bool) → ℕ → Bool
+is_unit_that band test i = nat_lt i (unit_count (span_of band)) && test ((span_of band).lo +ℤ pos i)
 
 -- whether it is a unit of the band's span, on a fibre that is kept
 abbrev pub is_kept : Band → ℕ → ℕ → ℤ → Bool

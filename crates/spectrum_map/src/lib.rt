@@ -6,8 +6,10 @@ mod bits;
 mod counts;
 pub mod maps;
 pub mod occupied;
+pub mod row;
 
 pub use flex_grid::band::Band;
 pub use flex_grid::units::Units;
 pub use maps::Maps;
 pub use occupied::Occupied;
+pub use row::Row;

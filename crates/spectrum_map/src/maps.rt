@@ -1,21 +1,20 @@
 //! The spectrum of a network in words.
 
-ghost use Rattle.std.specs.Prelude.{◌≡◌, ℕ, ◌+◌, ◌*◌, ◌<◌, ◌≤◌, ℤ, pos, ◌+ℤ◌, ◌≤ℤ◌, nat_abs, nat_le, nat_lt, ◌&&◌, not, ◌==◌, IsTrue, IfOk, length};
+ghost use Rattle.std.specs.Prelude.{◌≡◌, ℕ, ◌+◌, ◌*◌, ◌<◌, ◌≤◌, ℤ, pos, ◌+ℤ◌, ◌≤ℤ◌, nat_abs, nat_le, nat_lt, ◌&&◌, not, ◌==◌, IsTrue, IfOk, length, slice_index_or};
+ghost use Rattle.std.specs.List.{list_any};
 ghost use Rattle.eon_model.specs.Grid.{lies_in, span_of, unit_count};
-ghost use Rattle.eon_model.specs.Rows.{at_each, is_dark, with_lit, without_lit, with_held, without_held};
+ghost use Rattle.eon_model.specs.Rows.{units_in, at_each, is_dark, with_lit, without_lit, with_held, without_held};
 ghost use Rattle.spectrum_map.specs.Bits.{word_bit};
-ghost use Rattle.spectrum_map.specs.Kept.{IsKeptThere, IsEmpty, Becomes, lit_in, holders_in, rows_in, taken, place_of, words_for};
+ghost use Rattle.spectrum_map.specs.Kept.{bit_at_unit, IsKeptThere, IsEmpty, Becomes, lit_in, holders_in, rows_in, taken, words_for};
 
 use crate::bits::{ROW, clear_in_rows, highest_bit, highest_of_either, set_in_rows};
 use crate::counts::{hold_in_rows, let_go_in_rows};
 use crate::occupied::Occupied;
+use crate::row::{ROW_WORDS, Row, place, places_of};
 use flex_grid::band::Band;
 use flex_grid::units::Units;
 use std::alloc::{AllocError, Global};
 use std::marker::Model;
-
-/// Words in the row of one fibre.
-const ROW_WORDS: usize = 16;
 
 /// Which units of a band are lit on each fibre, one bit for each unit, and how many shared backups hold each unit. A unit
 /// that one or more hold is held.
@@ -38,23 +37,16 @@ impl Model for Maps {
     ghost invariant = { λ m. AreRows m.band m.fibres m.lit.items m.held.items m.holders.items };
 }
 
-// The place in its row of a unit of the band's span, or of the one above it.
-fn place(band: &Band, unit: i32) -> usize
-    requires low { (span_of band.now).lo ≤ℤ unit }
-    requires high { unit ≤ℤ ((span_of band.now).hi +ℤ pos 1) }
-    ensures place { result ≡ place_of band.now unit }
-    ensures few { result ≤ ROW }
+// Whether the bit of some of the units is 1 in the row of the fibre.
+fn is_some_one(band: &Band, words: &[u64], fibre: u8, units: &Units) -> bool
+    requires few { length words.now ≤ 65536 }
+    requires row { 16 * fibre + 16 ≤ length words.now }
+    requires units { IsTrue (lies_in (span_of band.now) units.now) }
+    ensures { (fibres : ℕ) → fibre < fibres → result ≡ list_any (bit_at_unit band.now fibres words.now fibre) (units_in units.now) }
 {
-    (unit - i32::from(band.lo())) as usize
-}
-
-// The place in its row of the unit above these, which lie in the band's span.
-fn place_above(band: &Band, units: &Units) -> usize
-    requires { IsTrue (lies_in (span_of band.now) units.now) }
-    ensures place { result ≡ place_of band.now units.now.lo + unit_count units.now }
-    ensures few { result ≤ ROW }
-{
-    place(band, i32::from(units.hi()) + 1)
+    let places = places_of(band, units);
+    let start = ROW * usize::from(fibre);
+    highest_bit(words, start + places.first, start + places.end).is_some()
 }
 
 impl Maps {
@@ -79,9 +71,8 @@ impl Maps {
         requires dark { IsTrue (is_dark (rows_in self.old) (taken fibres.now units)) }
         ensures { Becomes self.old self.new (with_lit (taken fibres.now units) (rows_in self.old)).lit (holders_in self.old) }
     {
-        let first = place(&self.band, i32::from(units.lo()));
-        let end = place_above(&self.band, &units);
-        set_in_rows(&mut self.lit, fibres, first, end);
+        let places = places_of(&self.band, &units);
+        set_in_rows(&mut self.lit, fibres, places.first, places.end);
     }
 
     /// Makes the units on these fibres dark, where they are lit.
@@ -90,9 +81,8 @@ impl Maps {
         requires lit { IsTrue (at_each (lit_in self.old) (taken fibres.now units)) }
         ensures { Becomes self.old self.new (without_lit (taken fibres.now units) (rows_in self.old)).lit (holders_in self.old) }
     {
-        let first = place(&self.band, i32::from(units.lo()));
-        let end = place_above(&self.band, &units);
-        clear_in_rows(&mut self.lit, fibres, first, end);
+        let places = places_of(&self.band, &units);
+        clear_in_rows(&mut self.lit, fibres, places.first, places.end);
     }
 
     /// Counts one shared backup more that holds the units on these fibres, where each has fewer than 8,192.
@@ -101,9 +91,14 @@ impl Maps {
         requires room { IsTrue (at_each (λ fibre u. nat_lt (holders_in self.old fibre u) 8192) (taken fibres.now units)) }
         ensures { Becomes self.old self.new (lit_in self.old) (with_held (taken fibres.now units) (holders_in self.old)) }
     {
-        let first = place(&self.band, i32::from(units.lo()));
-        let end = place_above(&self.band, &units);
-        hold_in_rows(&mut self.holders, &mut self.held, fibres, first, end);
+        let places = places_of(&self.band, &units);
+        hold_in_rows(
+            &mut self.holders,
+            &mut self.held,
+            fibres,
+            places.first,
+            places.end,
+        );
     }
 
     /// Counts one shared backup fewer that holds the units on these fibres, where each has one or more.
@@ -112,9 +107,22 @@ impl Maps {
         requires some { IsTrue (at_each (λ fibre u. nat_le 1 (holders_in self.old fibre u)) (taken fibres.now units)) }
         ensures { Becomes self.old self.new (lit_in self.old) (without_held (taken fibres.now units) (holders_in self.old)) }
     {
-        let first = place(&self.band, i32::from(units.lo()));
-        let end = place_above(&self.band, &units);
-        let_go_in_rows(&mut self.holders, &mut self.held, fibres, first, end);
+        let places = places_of(&self.band, &units);
+        let_go_in_rows(
+            &mut self.holders,
+            &mut self.held,
+            fibres,
+            places.first,
+            places.end,
+        );
+    }
+
+    // How many units there are from the band's lowest to its highest.
+    fn units(&self) -> usize
+        ensures value { result ≡ unit_count (span_of self.now.band) }
+        ensures few { result ≤ ROW }
+    {
+        place(&self.band, i32::from(self.band.hi()) + 1)
     }
 
     // How many words the units of the band fill.
@@ -131,6 +139,7 @@ impl Maps {
     pub fn lit_words(&self, fibre: u8) -> &[u64]
         requires { fibre < self.now.fibres }
         ensures count { length result.now ≡ words_for self.now.band }
+        ensures few { length result.now ≤ 16 }
         ensures bits { (j i : ℕ) → i < 64 → word_bit result.now j i ≡ (nat_lt (64 * j + i) (unit_count (span_of self.now.band)) && lit_in self.now fibre ((span_of self.now.band).lo +ℤ pos (64 * j + i))) }
     {
         let start = ROW_WORDS * usize::from(fibre);
@@ -141,10 +150,21 @@ impl Maps {
     pub fn held_words(&self, fibre: u8) -> &[u64]
         requires { fibre < self.now.fibres }
         ensures count { length result.now ≡ words_for self.now.band }
+        ensures few { length result.now ≤ 16 }
         ensures bits { (j i : ℕ) → i < 64 → word_bit result.now j i ≡ (nat_lt (64 * j + i) (unit_count (span_of self.now.band)) && not (holders_in self.now fibre ((span_of self.now.band).lo +ℤ pos (64 * j + i)) == 0)) }
     {
         let start = ROW_WORDS * usize::from(fibre);
         &self.held[start..start + self.words()]
+    }
+
+    /// How many shared backups hold each unit of a fibre, from the band's lowest unit to its highest.
+    pub fn held_counts(&self, fibre: u8) -> &[u16]
+        requires { fibre < self.now.fibres }
+        ensures count { length result.now ≡ unit_count (span_of self.now.band) }
+        ensures counts { (i : ℕ) → i < unit_count (span_of self.now.band) → slice_index_or result.now i 0 ≡ holders_in self.now fibre ((span_of self.now.band).lo +ℤ pos i) }
+    {
+        let start = ROW * usize::from(fibre);
+        &self.holders[start..start + self.units()]
     }
 }
 
@@ -156,17 +176,11 @@ impl Occupied for Maps {
     ghost rows = { λ m. rows_in m };
 
     fn lit(&self, fibre: u8, units: Units) -> bool {
-        let start = ROW * usize::from(fibre);
-        let first = place(&self.band, i32::from(units.lo()));
-        let end = place_above(&self.band, &units);
-        highest_bit(&self.lit, start + first, start + end).is_some()
+        is_some_one(&self.band, &self.lit, fibre, &units)
     }
 
     fn held(&self, fibre: u8, units: Units) -> bool {
-        let start = ROW * usize::from(fibre);
-        let first = place(&self.band, i32::from(units.lo()));
-        let end = place_above(&self.band, &units);
-        highest_bit(&self.held, start + first, start + end).is_some()
+        is_some_one(&self.band, &self.held, fibre, &units)
     }
 
     fn top_below(&self, fibre: u8, unit: i16) -> Option<i16> {
@@ -179,5 +193,14 @@ impl Occupied for Maps {
         let end = start + place(&self.band, above);
         let top = highest_of_either(&self.lit, &self.held, start, end)?;
         Some((lo + (top - start) as i32) as i16)
+    }
+
+    fn join_lit(&self, fibre: u8, row: &mut Row) {
+        row.join(self.lit_words(fibre));
+    }
+
+    fn join_taken(&self, fibre: u8, row: &mut Row) {
+        row.join(self.lit_words(fibre));
+        row.join(self.held_words(fibre));
     }
 }

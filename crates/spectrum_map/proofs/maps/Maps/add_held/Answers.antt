@@ -1,44 +1,28 @@
-use Rattle.std.proofs.Common.{◌≡◌, ◌∙◌, sym, ap, subst, ℕ, ◌+◌, ◌<◌, true, cond, List, length, get_or, arith, to_z, of_z, w32}
+use Rattle.std.proofs.Common.{◌≡◌, ◌∙◌, sym, ap, subst, ℕ, ◌+◌, ◌<◌, true, cond, List, length, get_or, arith}
 use Rattle.std.specs.Prelude.{nat_lt}
-use Rattle.std.proofs.lemmas.Int.{ints}
 use Rattle.std.proofs.lemmas.Bool.{ltb-true}
 use Rattle.std.proofs.lemmas.List.{with_items_is}
 use Rattle.std.specs.Vec.{with_items}
-use Rattle.eon_model.specs.Grid.{span_of}
 use Rattle.eon_model.specs.Rows.{with_held, at_each}
-use Rattle.eon_model.proofs.GridLaws.{lies_in-facts}
 use Rattle.spectrum_map.specs.Bits.{is_on_rows, AreHeld}
-use Rattle.spectrum_map.specs.Kept.{Kept, AreRows, Becomes, IsKeptThere, lit_in, holders_in, taken, place_of}
-use Rattle.eon_model.proofs.SpanLaws.{span-facts}
-use Rattle.spectrum_map.proofs.SpanLaws.{some_units, in_order}
+use Rattle.spectrum_map.specs.Kept.{Kept, AreRows, Becomes, IsKeptThere, lit_in, holders_in, taken}
 use Rattle.spectrum_map.proofs.KeptLaws.{rows_there, at_places, changed-rows, held-is}
 use Rattle.spectrum_map.proofs.maps.Maps.add_held.Goals as goal
 
-pub place-first-requires : goal.place-first-requires
-place-first-requires c =
-    let band = c.self.inside.band in
-    let there = subst (λ (v : Kept). IsKeptThere v (taken c.args.fibres.now c.args.units)) (sym c.self.view_is)
-    c.requires.there in
-    let w = lies_in-facts (span_of band) c.args.units there.units in
-    let w0 = w.0 in
-    let w1 = w.1 in
-    let s = some_units c.args.units c.lo.ensures.valid in
-    let at = c.lo.ensures.value in
-    record { low = omega (arith, ints); high = omega (arith, ints) }
+pub places_of-places-requires : goal.places_of-places-requires
+places_of-places-requires c =
+    (subst (λ (v : Kept). IsKeptThere v (taken c.args.fibres.now c.args.units)) (sym c.self.view_is)
+    c.requires.there).units
 
 pub hold_in_rows-requires : goal.hold_in_rows-requires
 hold_in_rows-requires c =
     let band = c.self.inside.band in
     let there = subst (λ (v : Kept). IsKeptThere v (taken c.args.fibres.now c.args.units)) (sym c.self.view_is)
     c.requires.there in
-    let some = some_units c.args.units c.lo.ensures.valid in
-    let at = c.lo.ensures.value in
-    let low : to_z w32 (of_z w32 c.from.result) ≡ c.args.units.lo = omega (arith, ints) in
-    let first = c.place-first.ensures.place ∙ ap (place_of band) low in
-    let end = c.place_above-end.ensures.place in
+    let at = c.places_of-places.ensures in
     let tested = at_places band c.self.inside.fibres c.self.inside.lit.items c.self.inside.held.items
-    c.self.inside.holders.items c.self.invariant c.args.fibres.now c.args.units some there.fibres there.units
-    c.place-first.result c.place_above-end.result first end
+    c.self.inside.holders.items c.self.invariant c.args.fibres.now c.args.units at.some there.fibres there.units
+    c.places_of-places.result.first c.places_of-places.result.end at.first_is at.end_is
     (λ n. nat_lt n 8192) (subst (λ (v : Kept). at_each (λ g u. nat_lt (holders_in v g u) 8192) (taken c.args.fibres.now c.args.units) ≡ true)
     (sym c.self.view_is) c.requires.room) in
     let words = ap length c.deref_mut-2.ensures.value ∙ c.self.invariant.held_count in
@@ -46,9 +30,8 @@ hold_in_rows-requires c =
     record {
       few = omega (arith, words, c.self.invariant.few);
       words = omega (arith, words, count);
-      order = in_order band (span-facts band c.self.invariant.band_is) c.args.units some there.units c.place-first.result
-          c.place_above-end.result first end;
-      within = c.place_above-end.ensures.few;
+      order = at.order;
+      within = at.few;
       rows = rows_there c.self.inside.fibres (length c.deref_mut-2.result.now) c.args.fibres.now words there.fibres;
       once = there.once;
       room = λ i h. let l = ltb-true (get_or c.self.inside.holders.items i 0) 8192 (tested i h) in
@@ -63,21 +46,17 @@ invariant_of-self c =
     let band = c.self.inside.band in
     let there = subst (λ (v : Kept). IsKeptThere v (taken c.args.fibres.now c.args.units)) (sym c.self.view_is)
     c.requires.there in
-    let some = some_units c.args.units c.lo.ensures.valid in
-    let at = c.lo.ensures.value in
-    let low : to_z w32 (of_z w32 c.from.result) ≡ c.args.units.lo = omega (arith, ints) in
-    let first = c.place-first.ensures.place ∙ ap (place_of band) low in
-    let end = c.place_above-end.ensures.place in
+    let at = c.places_of-places.ensures in
     let tested = at_places band c.self.inside.fibres c.self.inside.lit.items c.self.inside.held.items
-    c.self.inside.holders.items c.self.invariant c.args.fibres.now c.args.units some there.fibres there.units
-    c.place-first.result c.place_above-end.result first end
+    c.self.inside.holders.items c.self.invariant c.args.fibres.now c.args.units at.some there.fibres there.units
+    c.places_of-places.result.first c.places_of-places.result.end at.first_is at.end_is
     (λ n. nat_lt n 8192) (subst (λ (v : Kept). at_each (λ g u. nat_lt (holders_in v g u) 8192) (taken c.args.fibres.now c.args.units) ≡ true)
     (sym c.self.view_is) c.requires.room) in
     let bits : (i : ℕ) → get_or c.hold_in_rows.new.counts i 0
-    ≡ cond (is_on_rows c.args.fibres.now c.place-first.result c.place_above-end.result i)
+    ≡ cond (is_on_rows c.args.fibres.now c.places_of-places.result.first c.places_of-places.result.end i)
     (get_or c.self.inside.holders.items i 0 + 1) (get_or c.self.inside.holders.items i 0) =
     λ i. c.hold_in_rows.ensures.counts i
-    ∙ ap (λ (ws : List ℕ). cond (is_on_rows c.args.fibres.now c.place-first.result c.place_above-end.result i)
+    ∙ ap (λ (ws : List ℕ). cond (is_on_rows c.args.fibres.now c.places_of-places.result.first c.places_of-places.result.end i)
     (get_or ws i 0 + 1) (get_or ws i 0)) c.deref_mut.ensures.value in
     let whole = with_items_is c.self.inside.holders c.hold_in_rows.new.counts
     (c.hold_in_rows.ensures.len ∙ c.deref_mut.ensures.len) in
@@ -87,8 +66,8 @@ invariant_of-self c =
     (with_items c.self.inside.holders c.hold_in_rows.new.counts).items) (sym words)
     (subst (λ (ws : List ℕ). AreRows band c.self.inside.fibres c.self.inside.lit.items c.hold_in_rows.new.held ws)
     (sym whole) (changed-rows band c.self.inside.fibres c.self.inside.lit.items c.self.inside.held.items
-    c.self.inside.holders.items c.self.invariant c.args.fibres.now c.args.units some there.fibres there.units
-    c.place-first.result c.place_above-end.result first end
+    c.self.inside.holders.items c.self.invariant c.args.fibres.now c.args.units at.some there.fibres there.units
+    c.places_of-places.result.first c.places_of-places.result.end at.first_is at.end_is
     (λ n. n + 1) c.hold_in_rows.new.counts bits c.hold_in_rows.new.held
     (c.hold_in_rows.ensures.words ∙ ap length c.deref_mut-2.ensures.value)
     (c.hold_in_rows.ensures.len ∙ ap length c.deref_mut.ensures.value) c.hold_in_rows.ensures.held
@@ -99,22 +78,18 @@ returns c =
     let band = c.self.inside.band in
     let there = subst (λ (v : Kept). IsKeptThere v (taken c.args.fibres.now c.args.units)) (sym c.self.view_is)
     c.requires.there in
-    let some = some_units c.args.units c.lo.ensures.valid in
-    let at = c.lo.ensures.value in
-    let low : to_z w32 (of_z w32 c.from.result) ≡ c.args.units.lo = omega (arith, ints) in
-    let first = c.place-first.ensures.place ∙ ap (place_of band) low in
-    let end = c.place_above-end.ensures.place in
+    let at = c.places_of-places.ensures in
     let bits : (i : ℕ) → get_or c.hold_in_rows.new.counts i 0
-    ≡ cond (is_on_rows c.args.fibres.now c.place-first.result c.place_above-end.result i)
+    ≡ cond (is_on_rows c.args.fibres.now c.places_of-places.result.first c.places_of-places.result.end i)
     (get_or c.self.inside.holders.items i 0 + 1) (get_or c.self.inside.holders.items i 0) =
     λ i. c.hold_in_rows.ensures.counts i
-    ∙ ap (λ (ws : List ℕ). cond (is_on_rows c.args.fibres.now c.place-first.result c.place_above-end.result i)
+    ∙ ap (λ (ws : List ℕ). cond (is_on_rows c.args.fibres.now c.places_of-places.result.first c.places_of-places.result.end i)
     (get_or ws i 0 + 1) (get_or ws i 0)) c.deref_mut.ensures.value in
     let whole = with_items_is c.self.inside.holders c.hold_in_rows.new.counts
     (c.hold_in_rows.ensures.len ∙ c.deref_mut.ensures.len) in
     let is = held-is band c.self.inside.fibres c.self.inside.lit.items c.self.inside.held.items
-    c.self.inside.holders.items c.self.invariant c.args.fibres.now c.args.units some there.fibres there.units
-    c.place-first.result c.place_above-end.result first end
+    c.self.inside.holders.items c.self.invariant c.args.fibres.now c.args.units at.some there.fibres there.units
+    c.places_of-places.result.first c.places_of-places.result.end at.first_is at.end_is
     c.hold_in_rows.new.counts bits in
     subst (λ (v : Kept). Becomes v (record {
       band = band;

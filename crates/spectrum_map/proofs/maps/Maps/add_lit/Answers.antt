@@ -1,45 +1,28 @@
-use Rattle.std.proofs.Common.{◌≡◌, ◌∙◌, sym, ap, subst, ℕ, ◌||◌, List, length, arith, to_z, of_z, w32}
-use Rattle.std.proofs.lemmas.Int.{ints}
+use Rattle.std.proofs.Common.{◌≡◌, ◌∙◌, sym, ap, subst, ℕ, ◌||◌, List, length, arith}
 use Rattle.std.proofs.lemmas.List.{with_items_is}
 use Rattle.std.specs.Vec.{with_items}
-use Rattle.eon_model.specs.Grid.{span_of}
 use Rattle.eon_model.specs.Rows.{with_lit}
-use Rattle.eon_model.proofs.GridLaws.{lies_in-facts}
 use Rattle.spectrum_map.specs.Bits.{bit_of, is_on_rows}
-use Rattle.spectrum_map.specs.Kept.{Kept, AreRows, Becomes, IsKeptThere, rows_in, holders_in, taken, place_of}
-use Rattle.eon_model.proofs.SpanLaws.{span-facts}
-use Rattle.spectrum_map.proofs.SpanLaws.{some_units, in_order}
+use Rattle.spectrum_map.specs.Kept.{Kept, AreRows, Becomes, IsKeptThere, rows_in, holders_in, taken}
 use Rattle.spectrum_map.proofs.KeptLaws.{rows_there, lighted-is, lighted-rows}
 use Rattle.spectrum_map.proofs.maps.Maps.add_lit.Goals as goal
 
-pub place-first-requires : goal.place-first-requires
-place-first-requires c =
-    let band = c.self.inside.band in
-    let there = subst (λ (v : Kept). IsKeptThere v (taken c.args.fibres.now c.args.units)) (sym c.self.view_is)
-    c.requires.there in
-    let w = lies_in-facts (span_of band) c.args.units there.units in
-    let w0 = w.0 in
-    let w1 = w.1 in
-    let s = some_units c.args.units c.lo.ensures.valid in
-    let at = c.lo.ensures.value in
-    record { low = omega (arith, ints); high = omega (arith, ints) }
+pub places_of-places-requires : goal.places_of-places-requires
+places_of-places-requires c =
+    (subst (λ (v : Kept). IsKeptThere v (taken c.args.fibres.now c.args.units)) (sym c.self.view_is)
+    c.requires.there).units
 
 pub set_in_rows-requires : goal.set_in_rows-requires
 set_in_rows-requires c =
     let band = c.self.inside.band in
     let there = subst (λ (v : Kept). IsKeptThere v (taken c.args.fibres.now c.args.units)) (sym c.self.view_is)
     c.requires.there in
-    let some = some_units c.args.units c.lo.ensures.valid in
-    let at = c.lo.ensures.value in
-    let low : to_z w32 (of_z w32 c.from.result) ≡ c.args.units.lo = omega (arith, ints) in
-    let first = c.place-first.ensures.place ∙ ap (place_of band) low in
-    let end = c.place_above-end.ensures.place in
+    let at = c.places_of-places.ensures in
     let count = ap length c.deref_mut.ensures.value ∙ c.self.invariant.lit_count in
     record {
       few = omega (arith, count, c.self.invariant.few);
-      order = in_order band (span-facts band c.self.invariant.band_is) c.args.units some there.units c.place-first.result
-          c.place_above-end.result first end;
-      within = c.place_above-end.ensures.few;
+      order = at.order;
+      within = at.few;
       rows = rows_there c.self.inside.fibres (length c.deref_mut.result.now) c.args.fibres.now count there.fibres;
     }
 
@@ -48,19 +31,15 @@ invariant_of-self c =
     let band = c.self.inside.band in
     let there = subst (λ (v : Kept). IsKeptThere v (taken c.args.fibres.now c.args.units)) (sym c.self.view_is)
     c.requires.there in
-    let some = some_units c.args.units c.lo.ensures.valid in
-    let at = c.lo.ensures.value in
-    let low : to_z w32 (of_z w32 c.from.result) ≡ c.args.units.lo = omega (arith, ints) in
-    let first = c.place-first.ensures.place ∙ ap (place_of band) low in
-    let end = c.place_above-end.ensures.place in
-    let bits : (i : ℕ) → bit_of c.set_in_rows.new.words i ≡ (bit_of c.self.inside.lit.items i || is_on_rows c.args.fibres.now c.place-first.result c.place_above-end.result i) =
-    λ i. c.set_in_rows.ensures.bits i ∙ ap (λ (ws : List ℕ). bit_of ws i || is_on_rows c.args.fibres.now c.place-first.result c.place_above-end.result i) c.deref_mut.ensures.value in
+    let at = c.places_of-places.ensures in
+    let bits : (i : ℕ) → bit_of c.set_in_rows.new.words i ≡ (bit_of c.self.inside.lit.items i || is_on_rows c.args.fibres.now c.places_of-places.result.first c.places_of-places.result.end i) =
+    λ i. c.set_in_rows.ensures.bits i ∙ ap (λ (ws : List ℕ). bit_of ws i || is_on_rows c.args.fibres.now c.places_of-places.result.first c.places_of-places.result.end i) c.deref_mut.ensures.value in
     let len = c.set_in_rows.ensures.len ∙ ap length c.deref_mut.ensures.value in
     let whole = with_items_is c.self.inside.lit c.set_in_rows.new.words (c.set_in_rows.ensures.len ∙ c.deref_mut.ensures.len) in
     subst (λ (ws : List ℕ). AreRows band c.self.inside.fibres ws c.self.inside.held.items c.self.inside.holders.items)
     (sym whole) (lighted-rows band c.self.inside.fibres c.self.inside.lit.items c.self.inside.held.items
-    c.self.inside.holders.items c.self.invariant c.args.fibres.now c.args.units some there.fibres there.units
-    c.place-first.result c.place_above-end.result first end
+    c.self.inside.holders.items c.self.invariant c.args.fibres.now c.args.units at.some there.fibres there.units
+    c.places_of-places.result.first c.places_of-places.result.end at.first_is at.end_is
     c.set_in_rows.new.words len bits)
 
 pub returns : goal.returns
@@ -68,18 +47,14 @@ returns c =
     let band = c.self.inside.band in
     let there = subst (λ (v : Kept). IsKeptThere v (taken c.args.fibres.now c.args.units)) (sym c.self.view_is)
     c.requires.there in
-    let some = some_units c.args.units c.lo.ensures.valid in
-    let at = c.lo.ensures.value in
-    let low : to_z w32 (of_z w32 c.from.result) ≡ c.args.units.lo = omega (arith, ints) in
-    let first = c.place-first.ensures.place ∙ ap (place_of band) low in
-    let end = c.place_above-end.ensures.place in
-    let bits : (i : ℕ) → bit_of c.set_in_rows.new.words i ≡ (bit_of c.self.inside.lit.items i || is_on_rows c.args.fibres.now c.place-first.result c.place_above-end.result i) =
-    λ i. c.set_in_rows.ensures.bits i ∙ ap (λ (ws : List ℕ). bit_of ws i || is_on_rows c.args.fibres.now c.place-first.result c.place_above-end.result i) c.deref_mut.ensures.value in
+    let at = c.places_of-places.ensures in
+    let bits : (i : ℕ) → bit_of c.set_in_rows.new.words i ≡ (bit_of c.self.inside.lit.items i || is_on_rows c.args.fibres.now c.places_of-places.result.first c.places_of-places.result.end i) =
+    λ i. c.set_in_rows.ensures.bits i ∙ ap (λ (ws : List ℕ). bit_of ws i || is_on_rows c.args.fibres.now c.places_of-places.result.first c.places_of-places.result.end i) c.deref_mut.ensures.value in
     let len = c.set_in_rows.ensures.len ∙ ap length c.deref_mut.ensures.value in
     let whole = with_items_is c.self.inside.lit c.set_in_rows.new.words (c.set_in_rows.ensures.len ∙ c.deref_mut.ensures.len) in
     let is = lighted-is band c.self.inside.fibres c.self.inside.lit.items c.self.inside.held.items
-    c.self.inside.holders.items c.self.invariant c.args.fibres.now c.args.units some there.fibres there.units
-    c.place-first.result c.place_above-end.result first end
+    c.self.inside.holders.items c.self.invariant c.args.fibres.now c.args.units at.some there.fibres there.units
+    c.places_of-places.result.first c.places_of-places.result.end at.first_is at.end_is
     c.set_in_rows.new.words len bits in
     subst (λ (v : Kept). Becomes v (record {
       band = band;

@@ -2,7 +2,7 @@ use Rattle.std.proofs.Common.{◌≡◌, arith}
 use Rattle.std.proofs.lemmas.Int.{ints}
 use Rattle.eon_model.specs.Grid.{span_of}
 use Rattle.eon_model.proofs.SpanLaws.{span-facts}
-use Rattle.spectrum_map.proofs.maps.place.Goals as goal
+use Rattle.spectrum_map.proofs.row.place.Goals as goal
 
 pub overflow_sub-result : goal.overflow_sub-result
 overflow_sub-result c =
@@ -32,4 +32,4 @@ returns c =
     let at : c.from.result ≡ (span_of band).lo = let value = c.lo.ensures.value in omega (arith, ints) in
     let low = c.requires.low in
     let high = c.requires.high in
-    record { place = omega (arith, ints); few = omega (arith, ints) }
+    record { place = omega (arith, ints); few = omega (arith, ints); valid = c.lo.ensures.valid }
