@@ -1,11 +1,13 @@
 #!/usr/bin/env bash
-# Asks `routes` for every pair of nodes by `eonplan dry`, beside networkx's shortest_simple_paths in the same run, on the
-# network of fourteen nodes, on a grid of 7 by 8 nodes with one node apart, and on a network at the limits (64 nodes, 128
-# fibres, 16 routes). Compares the lengths of all routes, and prints seconds. Wants Python with networkx.
+# Asks `routes` for every pair of nodes, and `admit` (with a backup, then `release`) for some of them, by `eonplan dry`,
+# beside networkx's shortest_simple_paths in the same run: on the network of fourteen nodes, on a grid of 7 by 8 nodes with
+# one node apart, and on a network at the limits (64 nodes, 128 fibres, 16 routes). Compares the lengths of all routes, and
+# which demands are admitted, and prints seconds. Wants Python with networkx.
 #
-# usage: routes.sh [SEED]
+# usage: routes.sh [SEED] [ADMISSIONS]     a seed for the network at the limits, and for how many pairs `admit` is asked
 set -eu
 seed=${1:-1}
+admissions=${2:-40}
 top=$(cd "$(dirname "$0")/.." && pwd)
 work=$(mktemp -d)
 trap 'rm -rf "$work"' EXIT
@@ -24,50 +26,79 @@ print("\n".join(f"node {n}" for n in nodes))
 print("\n".join(f"fibre f{i:03d} {a} {b} {draw.randint(10, 500)}" for i, (a, b) in enumerate(ends)))
 print("end")
 PY
+# The first call builds the program, where that is needed.
 "$top/eonplan" dry "$work/grid.net" /dev/null >/dev/null
-for net in fourteen grid limits; do
-    python3 - "$top/eonplan" "$work/$net.net" "$work/commands" "$net" <<'PY'
-import itertools, subprocess, sys, time
+cat >"$work/compare.py" <<'PY'
+import itertools, random, subprocess, sys, time
 import networkx as nx
 
-program, net, commands, title = sys.argv[1:]
+program, net, commands, title, seed, admissions = sys.argv[1:]
 words = [line.split() for line in open(net)]
 nodes = [w[1] for w in words if w[0] == "node"]
 k = next(int(w[1]) for w in words if w[0] == "k")
 reach = max(int(w[2]) for w in words if w[0] == "format")
+risk = {w[1]: {w[1]} for w in words if w[0] == "fibre"}
 graph = nx.Graph()
-graph.add_nodes_from(nodes)
+graph.add_nodes_from(("node", n) for n in nodes)
 for w in words:
-    if w[0] == "fibre":
-        length = int(w[4])
-        known = graph.get_edge_data(w[2], w[3], {"km": None})["km"]
-        graph.add_edge(w[2], w[3], km=length if known is None else min(known, length))
-parallel = len({frozenset(w[2:4]) for w in words if w[0] == "fibre"}) < sum(w[0] == "fibre" for w in words)
-pairs = list(itertools.combinations(nodes, 2))
-with open(commands, "w") as out:
-    out.writelines(f"routes {a} {b}\n" for a, b in pairs)
+    if w[0] == "fibre":  # a node for each fibre too: shortest_simple_paths takes no two edges between two nodes
+        for end in w[2:4]:
+            graph.add_edge(("node", end), ("fibre", w[1]), km=int(w[4]))
+    if w[0] == "group":
+        for fibre in w[2:]:
+            risk[fibre].add(w[1])
 
-began = time.perf_counter()
-replies = subprocess.run([program, "dry", net, commands], stdout=subprocess.PIPE, check=True, text=True).stdout.splitlines()
-ours = time.perf_counter() - began
 
-def lengths(a, b):
-    if not nx.has_path(graph, a, b):
+def routes(a, b, without=frozenset()):
+    left = graph.subgraph(v for v in graph if v[0] == "node" or v[1] not in without) if without else graph
+    if not nx.has_path(left, ("node", a), ("node", b)):
         return []
-    found = itertools.islice(nx.shortest_simple_paths(graph, a, b, weight="km"), k)
-    return [km for km in (nx.path_weight(graph, path, "km") for path in found) if km <= reach]
+    paths = itertools.islice(nx.shortest_simple_paths(left, ("node", a), ("node", b), weight="km"), k)
+    found = [(nx.path_weight(left, path, "km") // 2, [name for kind, name in path if kind == "fibre"]) for path in paths]
+    return [(km, fibres) for km, fibres in found if km <= reach]
 
-began = time.perf_counter()
-theirs = [lengths(a, b) for a, b in pairs]
-peer = time.perf_counter() - began
+
+def candidates(a, b):
+    count = 0
+    for _, fibres in routes(a, b):
+        risks = set().union(*(risk[fibre] for fibre in fibres))
+        count += len(routes(a, b, {fibre for fibre in risk if risk[fibre] & risks}))
+    return count
+
+
+def answered(lines):
+    with open(commands, "w") as out:
+        out.writelines(line + "\n" for line in lines)
+    began = time.perf_counter()
+    run = subprocess.run([program, "dry", net, commands], stdout=subprocess.PIPE, check=True, text=True)
+    return time.perf_counter() - began, run.stdout.splitlines()
+
+
+def timed(work, pairs):
+    began = time.perf_counter()
+    done = [work(a, b) for a, b in pairs]
+    return time.perf_counter() - began, done
+
+
+pairs = list(itertools.combinations(nodes, 2))
+ours, replies = answered(f"routes {a} {b}" for a, b in pairs)
+peer, theirs = timed(routes, pairs)
 at, told = 0, []
 for _ in pairs:
     count = int(replies[at].split()[1])
     told.append([int(line.split()[2]) for line in replies[at + 1 : at + 1 + count]])
     at += 1 + count
-same = "lengths not compared (parallel fibres)" if parallel else ("the same lengths" if told == theirs else "OTHER LENGTHS")
-print(f"{title}: {len(pairs)} pairs, k {k}: eonplan {ours:.2f} s, networkx {peer:.2f} s, {same}", flush=True)
-if not parallel and told != theirs:
-    sys.exit(1)
+same = told == [[km for km, _ in found] for found in theirs]
+print(f"{title}: routes of {len(pairs)} pairs, k {k}: eonplan {ours:.2f} s, networkx {peer:.2f} s, {'the same' if same else 'OTHER'} lengths", flush=True)
+
+some = random.Random(int(seed)).sample(pairs, min(int(admissions), len(pairs)))
+ours, replies = answered(line for a, b in some for line in (f"admit s {a} {b} 100 shared", "release s"))
+peer, theirs = timed(candidates, some)
+admitted = [line.startswith("ok admit") for line in replies if not line.startswith(("ok release", "unknown"))]
+fits = admitted == [count > 0 for count in theirs]
+print(f"{title}: admit of {len(some)} pairs: eonplan {ours:.2f} s, networkx {peer:.2f} s, {'the same' if fits else 'OTHER'} demands are admitted", flush=True)
+sys.exit(0 if same and fits else 1)
 PY
+for net in fourteen grid limits; do
+    python3 "$work/compare.py" "$top/eonplan" "$work/$net.net" "$work/commands" "$net" "$seed" "$admissions"
 done

@@ -10,6 +10,17 @@ use Rattle.eon_model.specs.Sets.{NumberSet, set_of, meets}
 use Rattle.eon_model.specs.Candidates.{SizedRoute, Candidate, max_reach, sized, is_avoided, fails_with, with_backup, backed, candidates_over, candidates}
 use Rattle.pair_list.proofs.BanLaws.{routes-alike, fails-alone}
 
+-- fibres that meet the working route's risks are those that fail with it
+pub backups-found : (setup : Setup) (s t : ℕ) (w : SizedRoute) (banned : ℕ → Bool) (net : Network)
+    (risks : NumberSet) → net ≡ setup.network → risks ≡ w.route.risk →
+    ((i : ℕ) → i < length net.fibres → banned i ≡ meets (set_of (risks_of_fibre net i)) risks) →
+    first_routes setup.network s t banned setup.k (max_reach setup.formats)
+    ≡ first_routes setup.network s t (fails_with setup.network w.route) setup.k (max_reach setup.formats)
+backups-found setup s t w banned net risks same_net same_risks same =
+    routes-alike setup.network s t banned (fails_with setup.network w.route) setup.k (max_reach setup.formats)
+    (λ i l. same i (subst (λ (n : Network). i < length n.fibres) (sym same_net) l)
+    ∙ (λ j. meets (set_of (risks_of_fibre (same_net j) i)) (same_risks j)) ∙ fails-alone setup.network w.route i)
+
 pub backed-found : (setup : Setup) (s t rate : ℕ) (w : SizedRoute) (backups : List Route) (banned : ℕ → Bool)
     (net : Network) (risks : NumberSet) → net ≡ setup.network → risks ≡ w.route.risk →
     ((i : ℕ) → i < length net.fibres → banned i ≡ meets (set_of (risks_of_fibre net i)) risks) →
@@ -17,10 +28,7 @@ pub backed-found : (setup : Setup) (s t rate : ℕ) (w : SizedRoute) (backups : 
     map (with_backup w) (filter_map (sized setup rate) backups) ≡ backed setup s t rate w
 backed-found setup s t rate w backups banned net risks same_net same_risks same found =
     ap (λ rs. map (with_backup w) (filter_map (sized setup rate) rs))
-    (found ∙ routes-alike setup.network s t banned (fails_with setup.network w.route) setup.k
-    (max_reach setup.formats)
-    (λ i l. same i (subst (λ (n : Network). i < length n.fibres) (sym same_net) l)
-    ∙ (λ j. meets (set_of (risks_of_fibre (same_net j) i)) (same_risks j)) ∙ fails-alone setup.network w.route i))
+    (found ∙ backups-found setup s t w banned net risks same_net same_risks same)
 
 pub candidates-found : (setup : Setup) (s t rate : ℕ) (class : Class) (avoid : Option ℕ)
     (pairs start : List Candidate) (works : List Route) (banned : ℕ → Bool) → start ≡ [] →

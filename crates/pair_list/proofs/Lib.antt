@@ -2,3 +2,4 @@ pub mod PutLaws
 pub mod BanLaws
 pub mod FoundLaws
 pub mod SizedLaws
+pub mod RunLaws

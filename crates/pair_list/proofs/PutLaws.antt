@@ -18,13 +18,13 @@ none_taken : {X : Type 0} (xs : List X) → take 0 xs ≡ []
 none_taken [] = refl
 none_taken (x ∷ xs) = refl
 
-filter_map_first : {X Y : Type 0} (f : X → Option Y) (xs : List X) (n : ℕ) → n < length xs →
+pub filter_map-first : {X Y : Type 0} (f : X → Option Y) (xs : List X) (n : ℕ) → n < length xs →
     filter_map f (take (suc n) xs) ≡ filter_map f (take n xs) ++ option_to_list (option_and_then f (slice_get xs n))
-filter_map_first f [] n l = absurd (omega arith)
-filter_map_first f (x ∷ xs) zero l =
+filter_map-first f [] n l = absurd (omega arith)
+filter_map-first f (x ∷ xs) zero l =
     ap (λ ys. cons_option (f x) (filter_map f ys)) (none_taken xs) ∙ cons-option (f x)
-filter_map_first f (x ∷ xs) (suc n) l =
-    ap (cons_option (f x)) (filter_map_first f xs n (omega arith))
+filter_map-first f (x ∷ xs) (suc n) l =
+    ap (cons_option (f x)) (filter_map-first f xs n (omega arith))
     ∙ cons_append (f x) (filter_map f (take n xs)) (option_to_list (option_and_then f (slice_get xs n)))
 
 -- what one more gives, put behind what the first n gave
@@ -36,7 +36,7 @@ put-more h joins f xs n start l =
     let these = filter_map f (take n xs) in
     let next = option_to_list (option_and_then f (slice_get xs n)) in
     let more : filter_map f (take (n + 1) xs) ≡ these ++ next =
-    ap (λ m. filter_map f (take m xs)) (add-one n) ∙ filter_map_first f xs n l in
+    ap (λ m. filter_map f (take m xs)) (add-one n) ∙ filter_map-first f xs n l in
     append_assoc start (h these) (h next) ∙ ap (λ zs. start ++ zs) (sym (joins these next))
     ∙ ap (λ ys. start ++ h ys) (sym more)
 

@@ -7,6 +7,7 @@ mod demand;
 mod reach;
 mod sharers;
 
-pub use demand::{PairList, pairs};
+pub use demand::{PairList, pairs, pairs_counted};
 pub use leg_state::{Class, Pair, Spare};
-pub use reach::routes_within;
+pub use reach::{routes_within, routes_within_counted};
+pub use sharers::avoided;

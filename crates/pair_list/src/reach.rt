@@ -1,10 +1,11 @@
 //! Routes within reach, with the slot widths that a rate needs on them.
 
-ghost use Rattle.std.specs.Prelude.{◌≡◌, ℕ, ◌<◌, ◌≤◌, length, slice_get, Option, IfOk};
+ghost use Rattle.std.specs.Prelude.{◌≡◌, ℕ, ◌+◌, ◌<◌, ◌≤◌, length, slice_get, Option, IfOk};
 ghost use Rattle.std.specs.Option.{option_and_then};
 ghost use Rattle.eon_model.specs.Candidates.{max_reach, sized};
 ghost use Rattle.eon_model.specs.Routes.{first_routes};
 ghost use Rattle.eon_model.specs.Sets.{has_member};
+ghost use Rattle.pair_list.specs.Runs.{runs_within, most_within};
 
 use eon_base::steps::Steps;
 use leg_state::Spare;
@@ -16,8 +17,27 @@ use std::alloc::{AllocError, Global};
 use std::marker::Brand;
 use std::sync::ledger::{Blank, Ledger};
 
-// The first routes within reach, with the count of steps in the ledger of the blank.
-fn routes_counted<L: Ledger>(
+/// `routes_within`, whose runs of `least_walk` are counted.
+pub fn routes_within_counted<L: Ledger>(
+    alloc: Global,
+    setup: &NetSetup,
+    s: u8,
+    t: u8,
+    banned: &FibreSet,
+    steps: &mut Steps<L>,
+) -> Result<RouteList, AllocError>
+    requires source { s < length setup.now.network.nodes }
+    requires target { t < length setup.now.network.nodes }
+    ensures routes { IfOk result (λ rs. rs ≡ first_routes setup.now.network s t (has_member banned.now) setup.now.k (max_reach setup.now.formats)) }
+    ensures runs { IfOk result (λ rs. steps.new ≡ steps.old + runs_within setup.now s t (has_member banned.now)) }
+    ensures most { steps.new ≤ steps.old + most_within setup.now }
+{
+    let max_km = setup.table.max_reach();
+    routes(alloc, &setup.net, s, t, banned, setup.k, max_km, steps)
+}
+
+// The same, with the count of steps in the ledger of the blank.
+fn routes_within_blank<L: Ledger>(
     blank: Blank,
     alloc: Global,
     setup: &NetSetup,
@@ -33,8 +53,7 @@ fn routes_counted<L: Ledger>(
     ensures { IfOk result (λ rs. rs ≡ first_routes setup.now.network s t (has_member banned.now) setup.now.k (max_reach setup.now.formats)) }
 {
     let mut steps = Steps::<L>::over(blank);
-    let max_km = setup.table.max_reach();
-    routes(alloc, &setup.net, s, t, banned, setup.k, max_km, &mut steps)
+    routes_within_counted(alloc, setup, s, t, banned, &mut steps)
 }
 
 /// The first routes from node `s` to node `t` that are within the greatest reach of the table and use no banned fibre:
@@ -50,7 +69,7 @@ pub fn routes_within(
     requires target { t < length setup.now.network.nodes }
     ensures { IfOk result (λ rs. rs ≡ first_routes setup.now.network s t (has_member banned.now) setup.now.k (max_reach setup.now.formats)) }
 {
-    routes_counted::<Brand>(Blank::new(1), alloc, setup, s, t, banned)
+    routes_within_blank::<Brand>(Blank::new(1), alloc, setup, s, t, banned)
 }
 
 /// The route at this place with the slot width that the rate needs; None where no format reaches so far.

@@ -33,7 +33,7 @@ pub(crate) fn sharers(net: &Net, risks: &RiskSet) -> FibreSet
 }
 
 /// The set of the fibre to avoid, if there is one.
-pub(crate) fn avoided(avoid: Option<u8>) -> FibreSet
+pub fn avoided(avoid: Option<u8>) -> FibreSet
     requires { IfSome avoid (λ fibre. fibre < 128) }
     ensures { (i : ℕ) → has_member result i ≡ is_avoided avoid i }
 {

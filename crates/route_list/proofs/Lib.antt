@@ -1,5 +1,6 @@
 pub mod DistanceLaws
 pub mod WayLaws
+pub mod RoundLaws
 pub mod LeastLaws
 pub mod FrontLaws
 pub mod DeviateLaws

@@ -53,3 +53,9 @@ module _ (net : Network) (banned closed : ℕ → Bool) where
     pub reached : Reached t max_km fresh
     pub still : shorter ≡ false → (fresh ≡ old) × Done old
     pub less : shorter ≡ true → sum fresh < sum old
+
+  -- No distance is longer than it was, and by these fibres each is at most one fibre more than the next one was.
+  pub record Lowers (Done : ℕ → Type 0) (old fresh : List ℕ) : Type 0 where
+    pub lower : (node : ℕ) → slice_index fresh node ≤ slice_index old node
+    pub over : (i : ℕ) → Done i → (node next : ℕ) → Leads node i next →
+        slice_index fresh node ≤ slice_index old next + km_at net i

@@ -2,9 +2,11 @@
 
 ghost use Rattle.std.specs.Prelude.{◌≡◌, ℕ, ◌+◌, ◌<◌, ◌≤◌, ◌^◌, length, nat_lt, replicate, slice_index, slice_set};
 ghost use Rattle.eon_model.specs.Sets.{has_member};
-ghost use Rattle.route_list.specs.Distance.{is_free, shortened, Reached, Settled, Rounds, IsRelaxed};
+ghost use Rattle.route_list.specs.Distance.{is_free, shortened, Reached, Settled, Rounds, IsRelaxed, Lowers};
 
+use eon_base::steps::Steps;
 use net_graph::{FibreSet, Net, NodeSet};
+use std::sync::ledger::Ledger;
 
 /// The most nodes of a network.
 pub(crate) const MOST_NODES: usize = 64;
@@ -47,7 +49,8 @@ fn relax(
 ) -> bool
     requires known { fibre < length net.now.fibres }
     requires reached { Reached net.now (has_member banned.now) (has_member closed.now) t max_km away.old }
-    ensures { Rounds net.now (has_member banned.now) (has_member closed.now) t max_km (IsRelaxed net.now (has_member banned.now) (has_member closed.now) fibre) away.old away.new result }
+    ensures round { Rounds net.now (has_member banned.now) (has_member closed.now) t max_km (IsRelaxed net.now (has_member banned.now) (has_member closed.now) fibre) away.old away.new result }
+    ensures lower { Lowers net.now (has_member banned.now) (has_member closed.now) (λ i. i ≡ fibre) away.old away.new }
 {
     let _ = net.fibres();
     if !is_free(net, banned, closed, fibre) {
@@ -69,7 +72,8 @@ fn relax_all(
     away: &mut [u64; MOST_NODES],
 ) -> bool
     requires reached { Reached net.now (has_member banned.now) (has_member closed.now) t max_km away.old }
-    ensures { Rounds net.now (has_member banned.now) (has_member closed.now) t max_km (λ xs. (i : ℕ) → i < length net.now.fibres → IsRelaxed net.now (has_member banned.now) (has_member closed.now) i xs) away.old away.new result }
+    ensures round { Rounds net.now (has_member banned.now) (has_member closed.now) t max_km (λ xs. (i : ℕ) → i < length net.now.fibres → IsRelaxed net.now (has_member banned.now) (has_member closed.now) i xs) away.old away.new result }
+    ensures lower { Lowers net.now (has_member banned.now) (has_member closed.now) (λ i. i < length net.now.fibres) away.old away.new }
 {
     let mut shorter = false;
     for fibre in 0..net.fibres() {
@@ -89,22 +93,26 @@ fn at_first(t: u8, far: u64) -> [u64; MOST_NODES]
 }
 
 /// How many km it is at least from each node to the target over free fibres; more than the limit where it is not
-/// within it.
-pub(crate) fn distances(
+/// within it. It goes over all fibres in rounds, until nothing gets shorter: at most as often as there are nodes.
+pub(crate) fn distances<L: Ledger>(
     net: &Net,
     t: u8,
     banned: &FibreSet,
     closed: &NodeSet,
     max_km: u32,
+    rounds: &mut Steps<L>,
 ) -> [u64; MOST_NODES]
     requires { t < length net.now.nodes }
-    ensures { Settled net.now (has_member banned.now) (has_member closed.now) t max_km result }
+    ensures settled { Settled net.now (has_member banned.now) (has_member closed.now) t max_km result }
+    ensures rounds { rounds.new ≤ rounds.old + length net.now.nodes }
 {
-    let _ = net.nodes();
+    let nodes = net.nodes();
     let mut away = at_first(t, max_km as u64 + 1);
-    let mut shorter = true;
-    while shorter {
-        shorter = relax_all(net, banned, closed, max_km, t, &mut away);
+    for _round in 0..nodes {
+        rounds.tick();
+        if !relax_all(net, banned, closed, max_km, t, &mut away) {
+            return away;
+        }
     }
     away
 }

@@ -10,7 +10,8 @@ use crate::distance::{MOST_NODES, distances, is_free};
 use eon_base::steps::Steps;
 use net_graph::{FibreSet, Net, NodeSet, Route};
 use std::alloc::{AllocError, Global};
-use std::sync::ledger::Ledger;
+use std::marker::Brand;
+use std::sync::ledger::{Blank, Ledger};
 
 // Whether a least way from the node to the target goes on by the fibre.
 fn keeps(
@@ -88,6 +89,61 @@ fn least_way(
     Ok(fibres)
 }
 
+/// `least_walk`, whose rounds over all fibres are counted: they are no more than there are nodes.
+pub fn least_walk_in_rounds<L: Ledger, M: Ledger>(
+    alloc: Global,
+    net: &Net,
+    s: u8,
+    t: u8,
+    banned: &FibreSet,
+    closed: &NodeSet,
+    max_km: u32,
+    steps: &mut Steps<L>,
+    rounds: &mut Steps<M>,
+) -> Result<Option<Route>, AllocError>
+    requires source { s < length net.now.nodes }
+    requires target { t < length net.now.nodes }
+    ensures route { IfOk result (λ route. route ≡ least_route net.now s t (has_member banned.now) (has_member closed.now) max_km) }
+    ensures counted { steps.new ≡ steps.old + 1 }
+    ensures rounds { rounds.new ≤ rounds.old + length net.now.nodes }
+{
+    steps.tick();
+    let _ = net.nodes();
+    if closed.has(s) || closed.has(t) {
+        return Ok(None);
+    }
+    let away = distances(net, t, banned, closed, max_km, rounds);
+    if away[s as usize] > max_km as u64 {
+        return Ok(None);
+    }
+    let fibres = least_way(alloc, net, s, t, banned, closed, max_km, &away)?;
+    Route::make(alloc, net, s, t, &fibres)
+}
+
+// The same, with the count of rounds in the ledger of the blank.
+fn least_walk_blank<L: Ledger, M: Ledger>(
+    blank: Blank,
+    alloc: Global,
+    net: &Net,
+    s: u8,
+    t: u8,
+    banned: &FibreSet,
+    closed: &NodeSet,
+    max_km: u32,
+    steps: &mut Steps<L>,
+) -> Result<Option<Route>, AllocError>
+    requires name { blank.name ≡ M.name }
+    requires parts { blank.parts ≡ M.parts }
+    requires some { 0 < M.parts }
+    requires source { s < length net.now.nodes }
+    requires target { t < length net.now.nodes }
+    ensures route { IfOk result (λ route. route ≡ least_route net.now s t (has_member banned.now) (has_member closed.now) max_km) }
+    ensures counted { steps.new ≡ steps.old + 1 }
+{
+    let mut rounds = Steps::<M>::over(blank);
+    least_walk_in_rounds(alloc, net, s, t, banned, closed, max_km, steps, &mut rounds)
+}
+
 /// The first route from `s` to `t`, in the order of length and then of names, that uses no banned fibre, visits no
 /// closed node and is at most `max_km` long; None exactly where there is none. It is one step, whatever comes of it.
 pub fn least_walk<L: Ledger>(
@@ -105,15 +161,15 @@ pub fn least_walk<L: Ledger>(
     ensures route { IfOk result (λ route. route ≡ least_route net.now s t (has_member banned.now) (has_member closed.now) max_km) }
     ensures counted { steps.new ≡ steps.old + 1 }
 {
-    steps.tick();
-    let _ = net.nodes();
-    if closed.has(s) || closed.has(t) {
-        return Ok(None);
-    }
-    let away = distances(net, t, banned, closed, max_km);
-    if away[s as usize] > max_km as u64 {
-        return Ok(None);
-    }
-    let fibres = least_way(alloc, net, s, t, banned, closed, max_km, &away)?;
-    Route::make(alloc, net, s, t, &fibres)
+    least_walk_blank::<L, Brand>(
+        Blank::new(1),
+        alloc,
+        net,
+        s,
+        t,
+        banned,
+        closed,
+        max_km,
+        steps,
+    )
 }

@@ -6,9 +6,7 @@ mod deviation;
 mod distance;
 mod least;
 mod search;
-#[cfg(test)]
-mod tests;
 
-pub use least::least_walk;
+pub use least::{least_walk, least_walk_in_rounds};
 pub use net_graph::RouteList;
 pub use search::routes;

@@ -1,10 +1,16 @@
-use Rattle.std.proofs.Common.{◌≡◌, ◌++◌, take}
+use Rattle.std.proofs.Common.{◌≡◌, ◌+◌, ◌*◌, ◌≤◌, ◌++◌, take}
 use Rattle.std.specs.List.{filter_map}
 use Rattle.eon_model.specs.Candidates.{sized, candidates_over}
+use Rattle.pair_list.specs.Runs.{runs_over, most_behind}
 use Rattle.pair_list.proofs.demand.put_works.Given as goal
 
 abbrev pub invariant-loop-i : goal.invariant-loop-i
-invariant-loop-i l =
-    l.pairs.items
-    ≡ l.initial.pairs.items ++ candidates_over l.setup l.demand.s l.demand.t l.demand.rate l.demand.class
-    (filter_map (sized l.setup l.demand.rate) (take l.i l.works))
+invariant-loop-i g l = record {
+  pairs : l.pairs.items
+      ≡ l.initial.pairs.items ++ candidates_over l.setup l.demand.s l.demand.t l.demand.rate l.demand.class
+      (filter_map (sized l.setup l.demand.rate) (take l.i l.works));
+  runs : l.steps
+      ≡ l.initial.steps + runs_over l.setup l.demand.s l.demand.t l.demand.class
+      (filter_map (sized l.setup l.demand.rate) (take l.i l.works));
+  most : l.steps ≤ l.initial.steps + l.i * most_behind l.setup l.demand.class;
+}

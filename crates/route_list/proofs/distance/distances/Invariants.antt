@@ -1,13 +1,12 @@
-use Rattle.std.proofs.Common.{◌≡◌, ◌+◌, false, cond, sum}
+use Rattle.std.proofs.Common.{◌≡◌, ◌+◌}
 use Rattle.eon_model.specs.Sets.{has_member}
-use Rattle.route_list.specs.Distance.{Reached, Settled}
+use Rattle.route_list.specs.Distance.{Reached}
+use Rattle.route_list.proofs.RoundLaws.{IsNear}
 use Rattle.route_list.proofs.distance.distances.Given as goal
 
-abbrev pub invariant-loop-shorter : goal.invariant-loop-shorter
-invariant-loop-shorter l = record {
+abbrev pub invariant-loop-round : goal.invariant-loop-round
+invariant-loop-round g l = record {
   reached : Reached l.net (has_member l.banned) (has_member l.closed) l.t l.max_km l.away;
-  settled : l.shorter ≡ false → Settled l.net (has_member l.banned) (has_member l.closed) l.t l.max_km l.away;
+  near : IsNear l.net (has_member l.banned) (has_member l.closed) l.t l._round l.away;
+  counted : l.rounds ≡ l.initial.rounds + l._round;
 }
-
-abbrev pub decreases-loop-shorter : goal.decreases-loop-shorter
-decreases-loop-shorter l = sum l.away + cond l.shorter 1 0

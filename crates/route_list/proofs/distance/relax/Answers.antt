@@ -4,6 +4,7 @@ use Rattle.net_graph.specs.Rows.{fibre_seen}
 use Rattle.net_graph.proofs.RouteSums.{ends-small}
 use Rattle.route_list.specs.Distance.{Rounds, IsRelaxed}
 use Rattle.route_list.proofs.DistanceLaws.{over-both}
+use Rattle.route_list.proofs.RoundLaws.{lowers-over}
 use Rattle.route_list.proofs.distance.relax.Goals as goal
 
 pub shorten-there-requires-clause-node : goal.shorten-there-requires-clause-node
@@ -26,8 +27,8 @@ shorten-back-requires-clause-next c =
     let ends = ends-small c.args.net.now c.args.fibre c.fibres.ensures.graph c.requires.known in
     omega (arith, ends.0, ap (λ f. f.a) c.fibre-ends.ensures)
 
-pub returns-then-there : goal.returns-then-there
-returns-then-there c =
+pub returns-then-there-clause-round : goal.returns-then-there-clause-round
+returns-then-there-clause-round c =
     let net = c.args.net.now in
     let banned = has_member c.args.banned.now in
     let closed = has_member c.args.closed.now in
@@ -43,8 +44,8 @@ returns-then-there c =
     c.shorten-back.result c.requires.reached c.shorten-there.ensures.away c.shorten-there.ensures.shorter
     c.shorten-back.ensures.away c.shorten-back.ensures.shorter)
 
-pub returns-else-there : goal.returns-else-there
-returns-else-there c =
+pub returns-else-there-clause-round : goal.returns-else-there-clause-round
+returns-else-there-clause-round c =
     let net = c.args.net.now in
     let banned = has_member c.args.banned.now in
     let closed = has_member c.args.closed.now in
@@ -59,3 +60,25 @@ returns-else-there c =
     (omega (arith, ends.1, b)) c.args.away.now c.shorten-there.new.away c.shorten-back.new.away c.shorten-there.result
     c.shorten-back.result c.requires.reached c.shorten-there.ensures.away c.shorten-there.ensures.shorter
     c.shorten-back.ensures.away c.shorten-back.ensures.shorter)
+
+pub returns-then-there-clause-lower : goal.returns-then-there-clause-lower
+returns-then-there-clause-lower c =
+    let net = c.args.net.now in
+    let ends = ends-small net c.args.fibre c.fibres.ensures.graph c.requires.known in
+    let a = ap (λ f. f.a) c.fibre-ends.ensures in
+    let b = ap (λ f. f.b) c.fibre-ends.ensures in
+    lowers-over net (has_member c.args.banned.now) (has_member c.args.closed.now) c.args.fibre
+    (fibre_seen c.fibre-ends.result) c.fibre-ends.ensures c.requires.known c.args.away.now c.shorten-there.new.away
+    c.shorten-back.new.away (omega (arith, ends.0, a)) (omega (arith, ends.1, b)) c.shorten-there.ensures.away
+    c.shorten-back.ensures.away
+
+pub returns-else-there-clause-lower : goal.returns-else-there-clause-lower
+returns-else-there-clause-lower c =
+    let net = c.args.net.now in
+    let ends = ends-small net c.args.fibre c.fibres.ensures.graph c.requires.known in
+    let a = ap (λ f. f.a) c.fibre-ends.ensures in
+    let b = ap (λ f. f.b) c.fibre-ends.ensures in
+    lowers-over net (has_member c.args.banned.now) (has_member c.args.closed.now) c.args.fibre
+    (fibre_seen c.fibre-ends.result) c.fibre-ends.ensures c.requires.known c.args.away.now c.shorten-there.new.away
+    c.shorten-back.new.away (omega (arith, ends.0, a)) (omega (arith, ends.1, b)) c.shorten-there.ensures.away
+    c.shorten-back.ensures.away

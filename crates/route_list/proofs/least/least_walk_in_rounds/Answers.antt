@@ -3,8 +3,8 @@ use Rattle.std.proofs.lemmas.Result.{IfOk-weaker}
 use Rattle.eon_model.specs.Sets.{has_member}
 use Rattle.net_graph.specs.Walks.{route_from}
 use Rattle.route_list.proofs.LeastLaws.{closed-source, closed-target, too-far, least-made}
-use Rattle.route_list.proofs.least.least_walk.Goals as goal
-use Rattle.route_list.proofs.least.least_walk.Goals.{then-has-via-then-has, then-has-via-else-has+then-has-2}
+use Rattle.route_list.proofs.least.least_walk_in_rounds.Goals as goal
+use Rattle.route_list.proofs.least.least_walk_in_rounds.Goals.{then-has-via-then-has, then-has-via-else-has+then-has-2}
 
 pub returns-then-has-clause-route : goal.returns-then-has-clause-route
 returns-then-has-clause-route g c =
@@ -23,14 +23,14 @@ returns-then-has-clause-route g c =
 pub returns-then-away-s-clause-route : goal.returns-then-away-s-clause-route
 returns-then-away-s-clause-route g c =
     too-far c.args.net.now c.nodes.ensures.graph c.args.s c.args.t (has_member c.args.banned.now)
-    (has_member c.args.closed.now) c.args.max_km c.distances-away.result c.distances-away.ensures
+    (has_member c.args.closed.now) c.args.max_km c.distances-away.result c.distances-away.ensures.settled
     (omega (arith, c.if-away-s.true))
 
 pub returns-clause-route : goal.returns-clause-route
 returns-clause-route g c =
     let net = c.args.net.now in
     let made = least-made net c.nodes.ensures.graph c.args.s c.args.t (has_member c.args.banned.now)
-    (has_member c.args.closed.now) c.args.max_km c.distances-away.result c.distances-away.ensures
+    (has_member c.args.closed.now) c.args.max_km c.distances-away.result c.distances-away.ensures.settled
     c.in_ok-fibres.fibres.items (sym c.has.ensures ∙ c.if-has.false) (omega (arith, c.if-away-s.false))
     c.in_ok-fibres.ensures in
     IfOk-weaker c.make.result _ _ (λ r e. e ∙ ap (route_from net c.args.s c.args.t) c.deref.ensures.value ∙ made)
