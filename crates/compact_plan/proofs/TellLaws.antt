@@ -136,7 +136,7 @@ rest_one : (s : Service) (state : State) (b : Bool) → is_moving s ≡ b → co
 rest_one s state true e g more = cc
 rest_one s state false e g more = and_from _ _ (not_from_false _ e) (more g)
 
-at_rest : (state : State) → find is_moving state ≡ None → AtRest state
+pub at_rest : (state : State) → find is_moving state ≡ None → AtRest state
 at_rest [] h = refl
 at_rest (s ∷ state) h = rest_one s state (is_moving s) refl h (at_rest state)
 

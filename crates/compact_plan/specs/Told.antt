@@ -14,6 +14,8 @@ use Rattle.eon_model.specs.Plan.{Channel, channels_of, old_path, target_place, i
 use Rattle.compact_plan.specs.declared.answers.Rest.{Rest}
 use Rattle.compact_plan.specs.declared.answers.Rest.TheVariants as rest
 use Rattle.compact_plan.specs.declared.answers.Move.{Move}
+use Rattle.compact_plan.specs.declared.answers.Moves.{Moves}
+use Rattle.compact_plan.specs.declared.answers.Plan.{Plan}
 use Rattle.compact_plan.specs.declared.answers.Compact.{Compact}
 use Rattle.compact_plan.specs.declared.answers.Compact.TheVariants as compact
 use Rattle.compact_plan.specs.Sweeps.{centre_at, centres, LeavesLowest}
@@ -34,6 +36,12 @@ move_told m = record {
   rest = rest_told m.rest;
   after = m.after;
 }
+
+abbrev pub moves_told : Moves → List plan.Move
+moves_told m = map move_told m.list.items
+
+abbrev pub plan_told : Plan → plan.Plan
+plan_told p = record { batches = p.batches; moves = moves_told p.moves }
 
 -- ---- what is promised
 
@@ -62,7 +70,7 @@ abbrev pub IsCompact : Band → State → Compact → Type 0
 IsCompact band state (compact.Busy name) = first_moving state ≡ Some name
 IsCompact band state (compact.Lowest t) = (first_moving state ≡ None)
     × ((setup : Setup) → IsTrue (is_setup setup) → setup.band ≡ band → Legal setup state →
-    AreTargets setup state (map move_told t.moves.items))
+    AreTargets setup state (moves_told t.moves))
 
 -- ---- on the way
 

@@ -19,7 +19,7 @@ pub enum Rest {
 #[derive(Clone, Copy, Debug)]
 pub struct Move {
     /// The batch in which it drifts, from 1.
-    pub batch: u32,
+    pub batch: usize,
     /// The name of its service.
     pub name: Name,
     /// Where it stands.
@@ -32,27 +32,41 @@ pub struct Move {
     pub after: Option<Name>,
 }
 
-/// The moves of a plan.
+/// Moves, in some order.
 #[derive(Drop)]
-pub struct Targets {
-    pub moves: Vec<Move>,
+pub struct Moves {
+    pub list: Vec<Move>,
 }
 
-impl Targets {
+impl Moves {
     /// How many there are.
     pub fn len(&self) -> usize
-        ensures { result ≡ length self.now.moves.items }
+        ensures { result ≡ length self.now.list.items }
     {
-        self.moves.len()
+        self.list.len()
     }
 
     /// The move at this place, which is below `len`.
     pub fn at(&self, i: usize) -> &Move
-        requires { i < length self.now.moves.items }
-        ensures { slice_get self.now.moves.items i ≡ Some result.now }
+        requires { i < length self.now.list.items }
+        ensures { slice_get self.now.list.items i ≡ Some result.now }
     {
-        &self.moves[i]
+        &self.list[i]
     }
+}
+
+/// The channels whose lowest place is not their own, in list order, all in batch 1 and after none: the batches are not made.
+#[derive(Drop)]
+pub struct Targets {
+    pub moves: Moves,
+}
+
+/// Moves by batch, and within one in list order.
+#[derive(Drop)]
+pub struct Plan {
+    /// How many batches there are.
+    pub batches: usize,
+    pub moves: Moves,
 }
 
 /// What becomes of the wish to bring all channels to their lowest places.

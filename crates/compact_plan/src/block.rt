@@ -27,8 +27,8 @@ pub(crate) fn height(units: &Units) -> u16
     (i32::from(units.lo()) + 4096) as u16
 }
 
-// How many units of the grid lie below the path.
-pub(crate) fn path_height(path: &Path) -> u16
+/// How many units of the grid lie below the path.
+pub fn path_height(path: &Path) -> u16
     ensures value { result ≡ blocks.path_height path.now }
     ensures small { result < 8192 }
 {

@@ -3,7 +3,7 @@
 ghost use Rattle.std.specs.Prelude.{◌≡◌, map, IfOk};
 ghost use Rattle.compact_plan.specs.Told.{move_told, first_moving, AreMoves, IsCompact};
 
-use crate::answers::{Compact, Targets};
+use crate::answers::{Compact, Moves, Targets};
 use crate::block::blocks_in_order;
 use crate::sweep::sweep;
 use crate::telling::tell;
@@ -27,12 +27,14 @@ fn first_busy(services: &Services) -> Option<Name>
 
 // The moves of all channels to their lowest places.
 fn lowest(alloc: Global, services: &Services, band: &Band) -> Result<Targets, AllocError>
-    ensures { IfOk result (λ t. AreMoves band.now services.now.list (map move_told t.moves.items)) }
+    ensures { IfOk result (λ t. AreMoves band.now services.now.list (map move_told t.moves.list.items)) }
 {
     let blocks = blocks_in_order(alloc, services)?;
     let lows = sweep(alloc, services, band, &blocks)?;
-    let moves = tell(alloc, services, band, &lows)?;
-    Ok(Targets { moves })
+    let list = tell(alloc, services, band, &lows)?;
+    Ok(Targets {
+        moves: Moves { list },
+    })
 }
 
 /// How low every channel can drift. `Busy` exactly where a service moves, with the first in list order; else the moves of

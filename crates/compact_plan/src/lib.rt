@@ -9,7 +9,8 @@ mod row;
 mod sweep;
 mod telling;
 
-pub use answers::{Compact, Move, Rest, Targets};
+pub use answers::{Compact, Move, Moves, Plan, Rest, Targets};
+pub use block::path_height;
 pub use compacting::compact;
 pub use eon_base::name::Name;
 pub use flex_grid::band::Band;

@@ -1,5 +1,6 @@
 -- The replies of the code as replies of the planner's definitions.
 use Rattle.eon_model.specs.Replies as said
+use Rattle.compact_plan.specs.Told.{plan_told}
 use Rattle.reply_text.specs.declared.reply.Reply.{Reply}
 use Rattle.reply_text.specs.declared.reply.Reply.TheVariants as reply
 
@@ -35,6 +36,7 @@ reply_told (reply.Show name) = said.Reply.Show name
 reply_told reply.List = said.Reply.List
 reply_told (reply.Routes routes) = said.Reply.Routes routes
 reply_told (reply.Drill group hits) = said.Reply.Drill group hits
+reply_told (reply.Plan plan) = said.Reply.Plan (plan_told plan)
 reply_told (reply.Map text) = said.Reply.Map text
 reply_told (reply.Stats stats) = said.Reply.Stats stats
 reply_told (reply.Report text) = said.Reply.Report text

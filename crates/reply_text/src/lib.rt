@@ -8,6 +8,7 @@ mod fibre_lists;
 mod in_memory;
 mod legs;
 mod listing;
+mod plans;
 mod printing;
 pub mod reply;
 mod services;
@@ -18,6 +19,3 @@ pub use eon_model::Part;
 pub use in_memory::print_reply;
 pub use reply::Reply;
 pub use writing::write_reply;
-
-#[cfg(test)]
-mod tests;

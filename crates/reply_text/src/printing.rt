@@ -12,6 +12,7 @@ ghost use Rattle.reply_text.specs.Tellable.{can_tell};
 
 use crate::drills::put_drill;
 use crate::listing::{put_routes, put_services};
+use crate::plans::put_plan;
 use crate::reply::Reply;
 use crate::services::{put_named, put_old_leg, put_second_leg};
 use crate::words::{put_centres, put_count};
@@ -187,6 +188,7 @@ pub(crate) fn put_reply<W: TextSink>(r: &Reply, setup: &NetSetup, services: &Ser
         Reply::List => put_services(setup, services, out),
         Reply::Routes { routes } => put_routes(setup, routes, out),
         Reply::Drill { group, hits } => put_drill(setup, group, hits, out),
+        Reply::Plan { plan } => put_plan(plan, out),
         Reply::Map { text } => out.put(text.bytes()),
         Reply::Stats { stats } => put_stats(stats, out),
         Reply::Report { text } => put_text(text.bytes(), out),

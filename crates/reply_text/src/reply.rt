@@ -1,4 +1,5 @@
 //! What the planner says.
+use compact_plan::Plan;
 use eon_base::name::Name;
 use eon_model::Part;
 use failure_drill::DrillList;
@@ -69,6 +70,8 @@ pub enum Reply {
     Routes { routes: RouteList },
     /// The legs that the failure of this group takes down, each with the backup that takes over.
     Drill { group: Name, hits: DrillList },
+    /// The moves that bring every channel to its lowest place, in batches.
+    Plan { plan: Plan },
     /// The map of a fibre, with its line ends.
     Map { text: Text },
     /// The totals.

@@ -6,6 +6,6 @@ pub returns : goal.returns
 returns c = (
   c.in_ok-lows.lows.items,
   c.in_ok-lows.ensures.lowest,
-  c.in_ok-moves.ensures
+  c.in_ok-list.ensures
       ∙ ap (λ (lows : List ℕ). all_moves c.args.band.now (channels c.args.services.now.list lows)) c.deref-2.ensures.value,
 )

@@ -102,6 +102,9 @@ returns-in-Routes g c = rw c.in-Routes.is c.put_routes.ensures
 pub returns-in-Drill : goal.returns-in-Drill
 returns-in-Drill g c = rw c.in-Drill.is c.put_drill.ensures
 
+pub returns-in-Plan : goal.returns-in-Plan
+returns-in-Plan g c = rw c.in-Plan.is c.put_plan.ensures
+
 pub returns-in-Map : goal.returns-in-Map
 returns-in-Map g c =
     let text = rw c.bytes.ensures at c.put.ensures in

@@ -1,0 +1,4 @@
+pub mod Awaited
+pub mod Movers
+pub mod Rows
+pub mod Batches
