@@ -30,7 +30,7 @@ use Rattle.make_rule.specs.Told.{started, made_on, IfStarted}
 
 -- ---- what was found
 
-no-pairs : (n : ℕ) (found : Option Placement) → answer_for n found ≡ said.NoRoute → n ≡ 0
+pub no-pairs : (n : ℕ) (found : Option Placement) → answer_for n found ≡ said.NoRoute → n ≡ 0
 no-pairs zero found h = refl
 no-pairs (suc n) None h = cc
 no-pairs (suc n) (Some p) h = cc
@@ -38,13 +38,13 @@ no-pairs (suc n) (Some p) h = cc
 suc-not : (n : ℕ) → nat_eq (suc n) 0 ≡ false
 suc-not n = false_from_ne_true (nat_eq (suc n) 0) (λ e. let z = eqb-true (suc n) 0 e in omega arith)
 
-blocked-pairs : (n k : ℕ) (found : Option Placement) → answer_for n found ≡ said.Blocked k →
+pub blocked-pairs : (n k : ℕ) (found : Option Placement) → answer_for n found ≡ said.Blocked k →
     (nat_eq n 0 ≡ false) × ((n ≡ k) × (found ≡ None))
 blocked-pairs zero k found h = cc
 blocked-pairs (suc n) k None h = (suc-not n, (cc, refl))
 blocked-pairs (suc n) k (Some p) h = cc
 
-placed-pairs : (n : ℕ) (f : Found) (found : Option Placement) → answer_for n found ≡ said.Placed f →
+pub placed-pairs : (n : ℕ) (f : Found) (found : Option Placement) → answer_for n found ≡ said.Placed f →
     nat_eq n 0 ≡ false
 placed-pairs zero f found h = cc
 placed-pairs (suc n) f found h = suc-not n

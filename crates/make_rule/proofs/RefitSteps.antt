@@ -106,7 +106,7 @@ module _ (setup : Setup) (state : State) (name : Name) (s : Service) (legal : Le
           none true = refl
           none false = refl
 
-  refit-stands : is_band setup.band ≡ true → (k : ℤ) →
+  pub refit-stands : is_band setup.band ≡ true → (k : ℤ) →
       is_legal setup (with_backup_at name state k) ≡ may_back state setup.band name s.class s.leg b k
   refit-stands ok k =
       refitted-stands setup state name s legal found rest b k back

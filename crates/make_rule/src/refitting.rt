@@ -54,8 +54,9 @@ fn clashes_in(
     first_clash_with(services, service.class, &leg, Some(name)).is_some()
 }
 
-// Whether this backup of the service may stand at the centre.
-fn stands_at(
+/// Whether this backup of the service may stand at the centre, in units of 6.25 GHz: its slot lies in the band, and
+/// the leg clashes with no other service.
+pub fn stands_at(
     services: &Services,
     band: &Band,
     name: &Name,

@@ -1,8 +1,8 @@
 -- The answer to `admit`, cause by cause.
-use Rattle.std.proofs.Common.{◌≡◌, refl, sym, ◌∙◌, ap, subst, ℕ, zero, suc, ◌<◌, arith, true, false, List, [], ◌∷◌, ◌++◌, length, find, slice_get, Option, Some, None, not, nat_eq}
+use Rattle.std.proofs.Common.{◌≡◌, sym, ◌∙◌, ap, subst, ℕ, ◌<◌, true, false, List, [], ◌∷◌, ◌++◌, length, find, slice_get, Option, Some, None, not, nat_eq}
 use Rattle.std.specs.Prelude.{is_some, nat_le}
 use Rattle.std.specs.Option.{option_map, option_or}
-use Rattle.std.proofs.lemmas.Bool.{not-false, leb-false, eqb-true, false_from_ne_true}
+use Rattle.std.proofs.lemmas.Bool.{not-false, leb-false}
 use Rattle.eon_model.specs.declared.Class.{Class}
 use Rattle.eon_model.specs.Grid.{Band}
 use Rattle.eon_model.specs.Services.{Leg, Service, State, service_of}
@@ -18,7 +18,7 @@ use Rattle.eon_model.specs.Events as changes
 use Rattle.eon_model.specs.Step.{Outcome, Say, Change, or_else, ◌when◌, or_blocked, is_node, unknown_in, new_service, enters, node_numbered, admit_candidates, admit}
 use Rattle.eon_model.proofs.FindLaws.{find-none}
 use Rattle.eon_model.proofs.FollowLaws.{number_in}
-use Rattle.eon_model.proofs.ClashLaws.{no-some, none_found}
+use Rattle.eon_model.proofs.ListTests.{no-some, none_mapped}
 use Rattle.eon_model.proofs.ChangeLaws.{when-none, last_fits, first_leg-IsFirst}
 use Rattle.eon_model.proofs.EventRangeLaws.{outcome-is_event}
 use Rattle.eon_model.proofs.ToldLaws.{service-told}
@@ -28,30 +28,12 @@ use Rattle.admission.specs.Laws.{FirstForNewService}
 use Rattle.admission.specs.Told.{answer_for, placement_at, IsPlaceOn}
 use Rattle.admission.specs.declared.placing.Found.{Found}
 use Rattle.admission.specs.declared.placing.Admit.TheVariants as said
+use Rattle.make_rule.proofs.MakeSteps.{no-pairs, blocked-pairs, placed-pairs}
 use Rattle.plan_core.specs.Placing.{refusal}
 use Rattle.plan_core.specs.Admitting.{tried, IsOnFirst}
 use Rattle.plan_core.proofs.PlaceSteps.{first-cause, past-cause, or_else-or, or-none}
 
 -- ---- what was found
-
-no-pairs : (n : ℕ) (found : Option Placement) → answer_for n found ≡ said.NoRoute → n ≡ 0
-no-pairs zero found h = refl
-no-pairs (suc n) None h = cc
-no-pairs (suc n) (Some p) h = cc
-
-suc-not : (n : ℕ) → nat_eq (suc n) 0 ≡ false
-suc-not n = false_from_ne_true (nat_eq (suc n) 0) (λ e. let z = eqb-true (suc n) 0 e in omega arith)
-
-blocked-pairs : (n k : ℕ) (found : Option Placement) → answer_for n found ≡ said.Blocked k →
-    (nat_eq n 0 ≡ false) × ((n ≡ k) × (found ≡ None))
-blocked-pairs zero k found h = cc
-blocked-pairs (suc n) k None h = (suc-not n, (cc, refl))
-blocked-pairs (suc n) k (Some p) h = cc
-
-placed-pairs : (n : ℕ) (f : Found) (found : Option Placement) → answer_for n found ≡ said.Placed f →
-    nat_eq n 0 ≡ false
-placed-pairs zero f found h = cc
-placed-pairs (suc n) f found h = suc-not n
 
 no-route : (n : ℕ) → n ≡ 0 → (Reply.NoRoute when nat_eq n 0) ≡ Some Reply.NoRoute
 no-route n e = ap (λ (k : ℕ). Reply.NoRoute when nat_eq k 0) e
@@ -108,7 +90,7 @@ may-ask setup state d h =
     let a = or-none node (option_or taken full) h in
     let b = or-none taken full a.1 in
     let all = find-none (λ name. not (is_node net name)) (d.src ∷ d.dst ∷ [])
-    (none_found Reply.Unknown (find (λ name. not (is_node net name)) (d.src ∷ d.dst ∷ [])) a.0) in
+    (none_mapped Reply.Unknown (find (λ name. not (is_node net name)) (d.src ∷ d.dst ∷ [])) a.0) in
     record {
       src = number_in net.nodes d.src (not-false _ all.0);
       dst = number_in net.nodes d.dst (not-false _ all.1.0);

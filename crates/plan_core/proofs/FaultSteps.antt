@@ -22,6 +22,7 @@ use Rattle.flex_grid.specs.Makes.{slot_of}
 use Rattle.net_graph.specs.Walks.{route_from}
 use Rattle.command_text.specs.declared.command.BackWords.{BackWords}
 use Rattle.command_text.specs.Told.{told_backs, told_path}
+use Rattle.push_rule.proofs.HullLaws.{none-by}
 use Rattle.plan_core.specs.Placing.{paths_asked, path_if_walks, path_fault, slot_in_band, slot_if_fits}
 
 -- ---- one path
@@ -136,10 +137,6 @@ slot-made band u n m slot b r made is lies e =
     e ∙ some-then b slot
     ∙ (λ i. cond (lies i) (Some slot) None) ∙ (λ i. cond (lies_in_band band (is i)) (Some slot) None)
     ∙ sym (ap (λ (v : Slot). cond (lies_in_band band (units_of v)) (Some v) None) same)
-
-none-by : (b : Bool) (s : Slot) → cond b (Some s) None ≡ None → b ≡ false
-none-by true s h = cc
-none-by false s h = refl
 
 -- what is no slot of the grid does not lie in the band
 pub slot-none : (band : Band) (n : ℤ) (m : ℕ) → is_band band ≡ true → 1 ≤ m → slot_of n m ≡ None →

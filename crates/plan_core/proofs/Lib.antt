@@ -1,3 +1,4 @@
+pub mod ToldLegLaws
 pub mod WaitingLaws
 pub mod MoveLaws
 pub mod EventLaws
@@ -12,3 +13,6 @@ pub mod ShownLaws
 pub mod ReplyLaws
 pub mod DrillSteps
 pub mod MadeLaws
+pub mod FollowLaws
+pub mod FollowLegLaws
+pub mod CompactSteps

@@ -23,7 +23,7 @@ use Rattle.eon_model.proofs.ChangeLaws.{otherwise-Change, tried}
 use Rattle.reply_text.specs.Tellable.{can_tell}
 use Rattle.plan_core.specs.declared.decision.Decision.{Decision}
 use Rattle.plan_core.specs.declared.decision.Decision.TheVariants as decision
-use Rattle.plan_core.specs.Built.{is_built}
+use Rattle.plan_core.specs.Built.{is_compact}
 use Rattle.plan_core.specs.Told.{outcome_told, CanBeTold}
 use Rattle.plan_core.proofs.ShownLaws.{shown-over}
 use Rattle.plan_core.proofs.DrillSteps.{hits-told}
@@ -178,29 +178,29 @@ drill-said setup state (Some i) g r ok legal h =
     plain-say setup state (Reply.Drill g (hits_of i state)) r (hits-told setup state i ok legal) h
 
 outcome-said : (setup : Setup) (state : State) (c : Command) (r : Reply) → is_setup setup ≡ true → Legal setup state →
-    is_built c ≡ true → outcome_of setup state c ≡ Say r → can_tell setup state r ≡ true
-outcome-said setup state (Command.Place d w b) r ok legal built h = place-said setup state d w b r h
-outcome-said setup state (Command.Admit d) r ok legal built h = admit-said setup state d r h
-outcome-said setup state (Command.Release name) r ok legal built h =
+    is_compact c ≡ false → outcome_of setup state c ≡ Say r → can_tell setup state r ≡ true
+outcome-said setup state (Command.Place d w b) r ok legal other h = place-said setup state d w b r h
+outcome-said setup state (Command.Admit d) r ok legal other h = admit-said setup state d r h
+outcome-said setup state (Command.Release name) r ok legal other h =
     release-said setup state (service_of state name) name r h
-outcome-said setup state (Command.Push name n) r ok legal built h = push-said setup state name n r h
-outcome-said setup state (Command.Make name avoid) r ok legal built h = make-said setup state name avoid r h
-outcome-said setup state (Command.Finish name) r ok legal built h =
+outcome-said setup state (Command.Push name n) r ok legal other h = push-said setup state name n r h
+outcome-said setup state (Command.Make name avoid) r ok legal other h = make-said setup state name avoid r h
+outcome-said setup state (Command.Finish name) r ok legal other h =
     ended-said setup state name (events.Event.Finish name) (Reply.Finished name) r h
-outcome-said setup state (Command.Back name) r ok legal built h =
+outcome-said setup state (Command.Back name) r ok legal other h =
     ended-said setup state name (events.Event.Back name) (Reply.Backed name) r h
-outcome-said setup state (Command.Refit name) r ok legal built h = refit-said setup state name r h
-outcome-said setup state Command.Compact r ok legal built h = cc
-outcome-said setup state (Command.Drill g) r ok legal built h =
+outcome-said setup state (Command.Refit name) r ok legal other h = refit-said setup state name r h
+outcome-said setup state Command.Compact r ok legal other h = cc
+outcome-said setup state (Command.Drill g) r ok legal other h =
     drill-said setup state (risk_number_of setup.network g) g r ok legal h
-outcome-said setup state (Command.Routes s t) r ok legal built h = routes-said setup state s t r ok h
-outcome-said setup state (Command.Show name) r ok legal built h = show-said setup state (service_of state name) name r refl h
-outcome-said setup state Command.List r ok legal built h = plain-say setup state Reply.List r refl h
-outcome-said setup state (Command.Map name) r ok legal built h =
+outcome-said setup state (Command.Routes s t) r ok legal other h = routes-said setup state s t r ok h
+outcome-said setup state (Command.Show name) r ok legal other h = show-said setup state (service_of state name) name r refl h
+outcome-said setup state Command.List r ok legal other h = plain-say setup state Reply.List r refl h
+outcome-said setup state (Command.Map name) r ok legal other h =
     map-said setup state (fibre_of setup.network name) name r h
-outcome-said setup state Command.Stats r ok legal built h = plain-say setup state _ r refl h
-outcome-said setup state Command.Report r ok legal built h = plain-say setup state _ r refl h
-outcome-said setup state Command.Quit r ok legal built h = plain-say setup state Reply.Bye r refl h
+outcome-said setup state Command.Stats r ok legal other h = plain-say setup state _ r refl h
+outcome-said setup state Command.Report r ok legal other h = plain-say setup state _ r refl h
+outcome-said setup state Command.Quit r ok legal other h = plain-say setup state Reply.Bye r refl h
 
 -- ---- replies of changes
 
@@ -359,39 +359,39 @@ unfolding or_else
 said-else None q e r h = cc
 said-else (Some x) q e r h = cc
 
-outcome-changed : (setup : Setup) (state : State) (c : Command) (e : events.Event) (r : Reply) → is_built c ≡ true →
+outcome-changed : (setup : Setup) (state : State) (c : Command) (e : events.Event) (r : Reply) → is_compact c ≡ false →
     outcome_of setup state c ≡ Change e r → can_tell setup (events.apply setup.network state e) r ≡ true
-outcome-changed setup state (Command.Place d w b) e r built h = place-changed setup state d w b e r h
-outcome-changed setup state (Command.Admit d) e r built h = admit-changed setup state d e r h
-outcome-changed setup state (Command.Release name) e r built h =
+outcome-changed setup state (Command.Place d w b) e r other h = place-changed setup state d w b e r h
+outcome-changed setup state (Command.Admit d) e r other h = admit-changed setup state d e r h
+outcome-changed setup state (Command.Release name) e r other h =
     release-changed setup (events.apply setup.network state e) (service_of state name) name e r h
-outcome-changed setup state (Command.Push name n) e r built h =
+outcome-changed setup state (Command.Push name n) e r other h =
     push-changed setup state (events.apply setup.network state e) name n e r h
-outcome-changed setup state (Command.Make name avoid) e r built h = make-changed setup state name avoid e r h
-outcome-changed setup state (Command.Finish name) e r built h =
+outcome-changed setup state (Command.Make name avoid) e r other h = make-changed setup state name avoid e r h
+outcome-changed setup state (Command.Finish name) e r other h =
     ended-changed setup (events.apply setup.network state e) (service_of state name) name (events.Event.Finish name) e
     (Reply.Finished name) r refl h
-outcome-changed setup state (Command.Back name) e r built h =
+outcome-changed setup state (Command.Back name) e r other h =
     ended-changed setup (events.apply setup.network state e) (service_of state name) name (events.Event.Back name) e
     (Reply.Backed name) r refl h
-outcome-changed setup state (Command.Refit name) e r built h =
+outcome-changed setup state (Command.Refit name) e r other h =
     refit-changed setup state (events.apply setup.network state e) name e r h
-outcome-changed setup state Command.Compact e r built h = cc
-outcome-changed setup state (Command.Drill g) e r built h =
+outcome-changed setup state Command.Compact e r other h = cc
+outcome-changed setup state (Command.Drill g) e r other h =
     absurd (said-number (risk_number_of setup.network g) g (λ i. Reply.Drill g (hits_of i state)) e r h)
-outcome-changed setup state (Command.Routes s t) e r built h = absurd (said-else _ _ e r h)
-outcome-changed setup state (Command.Show name) e r built h =
+outcome-changed setup state (Command.Routes s t) e r other h = absurd (said-else _ _ e r h)
+outcome-changed setup state (Command.Show name) e r other h =
     absurd (said-alone (service_of state name) name (Reply.Show name) e r h)
-outcome-changed setup state Command.List e r built h = cc
-outcome-changed setup state (Command.Map name) e r built h =
+outcome-changed setup state Command.List e r other h = cc
+outcome-changed setup state (Command.Map name) e r other h =
     absurd (said-number (fibre_of setup.network name) name (λ i. Reply.Map (map_text setup state i)) e r h)
-outcome-changed setup state Command.Stats e r built h = cc
-outcome-changed setup state Command.Report e r built h = cc
-outcome-changed setup state Command.Quit e r built h = cc
+outcome-changed setup state Command.Stats e r other h = cc
+outcome-changed setup state Command.Report e r other h = cc
+outcome-changed setup state Command.Quit e r other h = cc
 
 -- ---- what is decided
 
 pub outcome-tells : (setup : Setup) (state : State) (c : Command) (d : Decision) → is_setup setup ≡ true →
-    Legal setup state → is_built c ≡ true → outcome_told d ≡ outcome_of setup state c → CanBeTold setup state d
-outcome-tells setup state c (decision.Say r) ok legal built h = outcome-said setup state c _ ok legal built (sym h)
-outcome-tells setup state c (decision.Change e r) ok legal built h = outcome-changed setup state c _ _ built (sym h)
+    Legal setup state → is_compact c ≡ false → outcome_told d ≡ outcome_of setup state c → CanBeTold setup state d
+outcome-tells setup state c (decision.Say r) ok legal other h = outcome-said setup state c _ ok legal other (sym h)
+outcome-tells setup state c (decision.Change e r) ok legal other h = outcome-changed setup state c _ _ other (sym h)

@@ -137,7 +137,7 @@ first_within net s t banned k max_km =
     (route_of-is_route net s t) (filter (walks net.fibres s t) (lists_of_fibres net))
     (all_kept (walks net.fibres s t) (lists_of_fibres net)) in
     all_taken (IsWithin net s t max_km) k _
-    (AllOf-sort (route_cmp net) (route_cmp_total net) (IsWithin net s t max_km) open_ones
+    (AllOf-sort (route_cmp net) (IsWithin net s t max_km) open_ones
     (all_within net s t banned max_km open_ones
     (AllOf-filter (λ r. is_route net s t r ≡ true) (is_open banned max_km) (all_routes net s t) routes)
     (all_kept (is_open banned max_km) (all_routes net s t))))

@@ -1,14 +1,16 @@
 -- What holds of decisions and of the change that waits.
-use Rattle.std.proofs.Common.{◌≡◌, refl, sym, subst, ℕ, ◌≤◌, arith, true, Option, Some, None}
+use Rattle.std.proofs.Common.{◌≡◌, refl, sym, subst, ℕ, ◌≤◌, arith, true, false, Option, Some, None}
 use Rattle.std.specs.Prelude.{Result, Ok, Err, IfOk, IfSome}
 use Rattle.std.specs.declared.alloc.AllocError.{AllocError}
-use Rattle.std.proofs.lemmas.Bool.{and_parts}
+use Rattle.std.specs.Bool.{then_some}
+use Rattle.std.proofs.lemmas.Bool.{and_parts, true≢false}
 use Rattle.eon_model.specs.Network.{Network}
 use Rattle.eon_model.specs.Services.{State}
 use Rattle.eon_model.specs.Legal.{Setup, Legal, is_legal}
 use Rattle.eon_model.specs.NetworkText.{is_setup}
 use Rattle.eon_model.specs.Commands.{Command}
 use Rattle.eon_model.specs.CommandText.{is_command}
+use Rattle.eon_model.specs.Events as changes
 use Rattle.eon_model.specs.Events.{apply}
 use Rattle.eon_model.specs.Replay.{is_asked, can_follow}
 use Rattle.eon_model.specs.Step as step
@@ -26,6 +28,8 @@ use Rattle.plan_core.specs.declared.proposal.Proposal.{Proposal}
 use Rattle.plan_core.specs.Told.{event_of, outcome_told, answer_of}
 use Rattle.plan_core.specs.Waiting.{needed, IsPrepared, HasRoom, CanBeMade, CanBeHeld}
 use Rattle.plan_core.specs.Seen.{IsKept}
+use Rattle.plan_core.specs.Following.{brings_leg}
+use Rattle.plan_core.proofs.ToldLegLaws.{from_some}
 
 -- ---- a change that can be made
 
@@ -108,6 +112,33 @@ applied-IsKept setup before after spare room q now waiting e kept made none = re
       (after-Legal setup before spare q e kept.waits);
   waits = rw none tt;
 }
+
+-- ---- what is followed
+
+-- an event that can follow, for which all that it needs is there, is one that waits to be made
+pub followed-IsKept : (setup : Setup) (before after : State) (spare room : ℕ) (q now : Prepared) (w : Option Event)
+    (e : Event) → IsKept setup before spare q w → after ≡ before → is_event (event_told e) ≡ true →
+    Some now ≡ then_some (can_follow setup before (event_told e)) (needed setup.network (event_told e)) →
+    HasRoom room now → IsKept setup after room now (Some e)
+followed-IsKept setup before after spare room q now w e kept same range can enough =
+    let is = from_some (can_follow setup before (event_told e)) (needed setup.network (event_told e)) now can in
+    record {
+      in_range = kept.in_range;
+      named = rw same kept.named;
+      legal = rw same kept.legal;
+      waits = rw same (record { in_range = range; follows = is.0; is_needed = is.1; room = enough });
+    }
+
+-- an event that brings no leg needs nothing
+pub needs-nothing : (net : Network) (e : changes.Event) → brings_leg e ≡ false → needed net e ≡ prepared.Nothing
+needs-nothing net (changes.Event.Enter text) h = absurd (true≢false h)
+needs-nothing net (changes.Event.Leave name) h = refl
+needs-nothing net (changes.Event.Push name to) h = refl
+needs-nothing net (changes.Event.Finish name) h = refl
+needs-nothing net (changes.Event.Back name) h = refl
+needs-nothing net (changes.Event.Make name class text) h = absurd (true≢false h)
+needs-nothing net (changes.Event.Refit name n) h = refl
+needs-nothing net (changes.Event.Bind digest) h = refl
 
 -- ---- what is decided
 

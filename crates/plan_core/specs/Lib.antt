@@ -5,3 +5,5 @@ pub mod Seen
 pub mod AskedCodes
 pub mod Placing
 pub mod Admitting
+pub mod Following
+pub mod Proposed

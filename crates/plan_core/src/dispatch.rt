@@ -10,7 +10,7 @@ ghost use Rattle.eon_model.specs.Replies.{Reply as said};
 ghost use Rattle.eon_model.specs.Answers.{takes_memory};
 ghost use Rattle.command_text.specs.Told.{told};
 ghost use Rattle.reply_text.specs.Replied.{reply_told};
-ghost use Rattle.plan_core.specs.Built.{is_built};
+ghost use Rattle.plan_core.specs.Built.{is_compact};
 ghost use Rattle.plan_core.specs.Told.{outcome_told};
 ghost use Rattle.plan_core.specs.Waiting.{IsPrepared};
 
@@ -68,7 +68,7 @@ fn demand_of(name: &Name, src: &Name, dst: &Name, rate: u32, class: Class) -> De
     }
 }
 
-/// What a command that is built comes to.
+/// What a command comes to, but `compact`.
 pub fn proposal_for(
     alloc: Global,
     setup: &NetSetup,
@@ -79,7 +79,7 @@ pub fn proposal_for(
     requires named { IsTrue (is_state services.now.list) }
     requires legal { Legal setup.now services.now.list }
     requires in_range { IsTrue (is_command (told command.now)) }
-    requires built { IsTrue (is_built (told command.now)) }
+    requires other { is_compact (told command.now) ≡ false }
     ensures is { IfOk result (λ p. outcome_told p.decision ≡ step.outcome_of setup.now services.now.list (told command.now)) }
     ensures prepared { IfOk result (λ p. IsPrepared setup.now.network p.decision p.prepared) }
     ensures no_memory { takes_memory (told command.now) ≡ false → IfOk result (λ p. p.prepared ≡ Prepared.Nothing) }
@@ -123,6 +123,6 @@ pub fn proposal_for(
         Command::Drill { group } => Ok(say(drill(alloc, setup, services, group)?)),
         Command::Routes { src, dst } => Ok(say(routes_between(alloc, setup, src, dst)?)),
         Command::Quit => Ok(say(Reply::Bye)),
-        _ => unreachable!(),
+        Command::Compact => unreachable!(),
     }
 }

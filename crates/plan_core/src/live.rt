@@ -45,24 +45,24 @@ impl Live {
     }
 
     /// Makes the change, for which all that it needs is there. No memory is taken.
-    pub fn change(&mut self, event: Event, prepared: Prepared)
-        requires { (setup : Setup) × IsKept setup self.old.services.list self.old.services.spare prepared (Some event) }
-        ensures { (net : Network) → prepared ≡ needed net (event_told event) → self.new.services.list ≡ apply net self.old.services.list (event_told event) }
+    pub fn change(&mut self, event: &Event, prepared: Prepared)
+        requires { (setup : Setup) × IsKept setup self.old.services.list self.old.services.spare prepared (Some event.now) }
+        ensures { (net : Network) → prepared ≡ needed net (event_told event.now) → self.new.services.list ≡ apply net self.old.services.list (event_told event.now) }
     {
         match event {
             Event::Enter { .. } => match prepared {
                 Prepared::Service(service) => self.services.enter(service),
                 _ => unreachable!(),
             },
-            Event::Leave { name } => let_go(self.services.leave(&name)),
-            Event::Push { name, to } => self.services.set_to(&name, to),
-            Event::Finish { name } => self.services.end_move(&name),
-            Event::Back { name } => self.services.undo_move(&name),
+            Event::Leave { name } => let_go(self.services.leave(name)),
+            Event::Push { name, to } => self.services.set_to(name, *to),
+            Event::Finish { name } => self.services.end_move(name),
+            Event::Back { name } => self.services.undo_move(name),
             Event::Make { name, .. } => match prepared {
-                Prepared::Leg(leg) => self.services.add_leg(&name, leg),
+                Prepared::Leg(leg) => self.services.add_leg(name, leg),
                 _ => unreachable!(),
             },
-            Event::Refit { name, n } => self.services.set_back(&name, n),
+            Event::Refit { name, n } => self.services.set_back(name, *n),
             Event::Bind { .. } => {}
         }
     }

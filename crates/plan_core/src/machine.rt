@@ -1,7 +1,8 @@
 //! The machine: a network, and the live services on it.
-ghost use Rattle.std.specs.Prelude.{◌≡◌, [], false, Some, None, IsTrue, IsOk, IfOk, IfErr, IfSome};
+ghost use Rattle.std.specs.Prelude.{◌≡◌, ◌≢◌, [], true, false, Some, None, Err, IsTrue, IsOk, IfOk, IfErr, IfSome, OnOk, OnErr, IsErrOf};
 ghost use Rattle.eon_model.specs.Events as changes;
 ghost use Rattle.eon_model.specs.EventText.{is_event};
+ghost use Rattle.eon_model.specs.Replay.{can_follow};
 ghost use Rattle.eon_model.specs.Legal.{Legal};
 ghost use Rattle.eon_model.specs.NetworkText.{is_setup};
 ghost use Rattle.eon_model.specs.CommandText.{is_command};
@@ -12,10 +13,12 @@ ghost use Rattle.plan_core.specs.Built.{is_built};
 ghost use Rattle.journal_record.specs.Told.{event_told};
 ghost use Rattle.plan_core.specs.Told.{answer_of, event_of, CanBeTold};
 ghost use Rattle.plan_core.specs.Waiting.{CanBeHeld};
+ghost use Rattle.plan_core.specs.Following.{brings_leg};
 
 use crate::awaited::Awaited;
+use crate::compacting::propose;
 use crate::decision::Decision;
-use crate::dispatch::proposal_for;
+use crate::follow::{CannotFollow, needed_by};
 use crate::live::Live;
 use crate::proposal::{Prepared, Proposal};
 use command_text::Command;
@@ -112,7 +115,7 @@ impl Core {
         ensures can_tell { IfOk result (λ d. CanBeTold self.old.setup self.old.state d) }
         ensures no_memory { takes_memory (told c.now) ≡ false → IsOk result }
     {
-        let proposal = proposal_for(self.alloc, &self.setup, &self.live.services, c)?;
+        let proposal = propose(self.alloc, &self.setup, &self.live.services, c)?;
         self.hold(proposal)
     }
 
@@ -125,6 +128,29 @@ impl Core {
     {
         let prepared = std::mem::replace(&mut self.prepared, Prepared::Nothing);
         self.awaited = Awaited::none();
+        self.live.change(&e, prepared);
+    }
+
+    /// Makes the change, exactly where it can follow the state; no change waits then. Else, and at want of memory,
+    /// all is as before, the change that waits too.
+    pub fn follow(&mut self, e: &Event) -> Result<(), CannotFollow>
+        requires { IsTrue (is_event (event_told e.now)) }
+        ensures setup { self.new.setup ≡ self.old.setup }
+        ensures state { OnOk result (self.new.state ≡ changes.apply self.old.setup.network self.old.state (event_told e.now)) }
+        ensures follows { OnOk result (can_follow self.old.setup self.old.state (event_told e.now) ≡ true) }
+        ensures waiting { OnOk result (self.new.waiting ≡ None) }
+        ensures refused { IsErrOf result CannotFollow.NotNow → can_follow self.old.setup self.old.state (event_told e.now) ≡ false }
+        ensures kept { OnErr result (self.new ≡ self.old) }
+        ensures no_memory { brings_leg (event_told e.now) ≡ false → result ≢ Err CannotFollow.Memory }
+    {
+        let needed = needed_by(self.alloc, &self.setup, &self.live.services, e)?;
+        let Some(prepared) = needed else {
+            return Err(CannotFollow::NotNow);
+        };
+        self.live.make_room(&prepared)?;
+        self.prepared = Prepared::Nothing;
+        self.awaited = Awaited::none();
         self.live.change(e, prepared);
+        Ok(())
     }
 }

@@ -48,8 +48,8 @@ fn unknown_written(net: &Net, work: &FibreNames, back: &Option<BackWords>) -> Op
     }
 }
 
-// Whether a live service has the name.
-fn is_taken(services: &Services, name: &Name) -> bool
+/// Whether a live service has the name.
+pub fn is_taken(services: &Services, name: &Name) -> bool
     ensures { result ≡ is_some (service_of services.now.list name.now) }
 {
     services.find(name).is_some()

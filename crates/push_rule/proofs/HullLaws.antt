@@ -36,9 +36,10 @@ hull-slot band slot to band_ok ok h =
     let f = any-member (λ (part : Units). lies_in part (hull (units_of slot) (units_of (moved_to slot to)))) band h in
     moved-slot slot to f.0 ok (list_all-at is_units band f.0 (band-parts band band_ok).units f.1.0) f.1.1
 
-none-by : (b : Bool) (s : Slot) → cond b (Some s) None ≡ None → b ≡ false
-none-by true s h = cc
-none-by false s h = refl
+-- what is there where a test passes, is not there where it does not
+pub none-by : {X : Type 0} (b : Bool) (x : X) → cond b (Some x) None ≡ None → b ≡ false
+none-by true x h = cc
+none-by false x h = refl
 
 -- where it cannot be moved, its hull leaves the band
 pub hull-leaves : (band : Band) (slot : Slot) (to : ℤ) → is_band band ≡ true → is_slot slot ≡ true →
