@@ -7,8 +7,6 @@ mod event;
 mod fault;
 mod fields;
 mod reading;
-#[cfg(test)]
-mod tests;
 mod writing;
 
 pub use buffer::EventBuf;

@@ -10,8 +10,6 @@ mod making;
 mod opening;
 mod place;
 mod record;
-#[cfg(test)]
-mod tests;
 mod walk;
 
 pub use fault::{AppendFault, InitFault, NextFault, OpenFault};

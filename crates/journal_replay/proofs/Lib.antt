@@ -1,0 +1,2 @@
+mod FollowSteps
+mod ToldSteps
