@@ -15,7 +15,7 @@ use Rattle.plan_serve.specs.Lines.{whole_lines, quits_within, has_no_end, most_k
 use Rattle.plan_serve.specs.Ends.{Serves, GoesOnBehind, AnswersAll, StopsAtLong, StopsReading, StopsWriting, AnswersStream, CountsReads}
 use Rattle.plan_serve.specs.Session.{Goes, Quits, Breaks, Feeds, FinishesAt}
 use Rattle.plan_serve.specs.declared.status.Status.{Status}
-use Rattle.plan_serve.specs.declared.status.Status.TheVariants.{Done, Words, NetRefused, NetLong, ReadFault, Memory, WriteFault, InputLong, Later}
+use Rattle.plan_serve.specs.declared.status.Status.TheVariants.{Done, ReadFault, WriteFault, InputLong}
 use Rattle.plan_serve.specs.declared.answering.Flow.{Flow}
 use Rattle.plan_serve.specs.declared.answering.Flow.TheVariants.{On, Ended}
 use Rattle.plan_serve.proofs.AnsweredLaws.{serves_lines, serves_quit, begins_front, ends_early}
@@ -430,12 +430,5 @@ module _ (setup same : Setup) (start here last : State) (before now then : Optio
 -- no call of the shelf failed
 pub counts_none : (status : Status) (before now : ℕ) → (status ≡ ReadFault → ⊥) → now ≡ before →
     CountsReads status before now
-counts_none Done before now never same = same
-counts_none Words before now never same = same
-counts_none (NetRefused number why) before now never same = same
-counts_none NetLong before now never same = same
 counts_none ReadFault before now never same = absurd (never refl)
-counts_none Memory before now never same = same
-counts_none WriteFault before now never same = same
-counts_none InputLong before now never same = same
-counts_none Later before now never same = same
+counts_none _ before now never same = same

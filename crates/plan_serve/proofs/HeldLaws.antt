@@ -1,11 +1,10 @@
 -- What a sink that holds bytes back was given, and what the one below it was.
-use Rattle.std.proofs.Common.{◌≡◌, ◌≢◌, refl, sym, ◌∙◌, ap, subst, ℕ, Bool, true, false, List, [], ◌∷◌, ◌++◌, append_assoc, length, take, drop, Option, None, Some, Result, Ok, Err, arith}
+use Rattle.std.proofs.Common.{◌≡◌, ◌≢◌, refl, sym, ◌∙◌, ap, subst, ℕ, Bool, true, false, List, [], ◌++◌, append_assoc, length, take, drop, Option, None, Some, Result, Ok, Err, arith}
 use Rattle.std.specs.Prelude.{IfSome, bytes_eq, if◌then◌else◌}
 use Rattle.std.specs.Io.KnownBytes.{Appends, Keeps}
 use Rattle.std.proofs.lemmas.Slice.Eq.{bytes_eq-Decides}
 use Rattle.std.proofs.lemmas.List.{take_all, take-append-drop, take-append-le, length-take, append-nil, append_cancel_left}
-use Rattle.eon_outside.specs.Faults.{Standing, with_fault}
-use Rattle.eon_outside.specs.Held.{standing_over, given_since, Flushes}
+use Rattle.eon_outside.specs.Held.{given_since, Flushes}
 
 -- ---- a flush
 

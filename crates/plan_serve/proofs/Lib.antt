@@ -9,4 +9,8 @@ pub mod HeldLaws
 pub mod FeedLaws
 pub mod EndLaws
 pub mod TopLaws
+pub mod JournalModeLaws
+pub mod CallLaws
+pub mod HexLaws
+pub mod NetworkLaws
 pub mod DecideLaws

@@ -33,7 +33,7 @@ lines_of-line (b ∷ l) rest h =
     else_of (b == 10) _ _ parts.0 ∙ ap (byte_before b) (lines_of-line l rest parts.1)
 
 -- the end of a line, and what follows
-next_line : (l es rest : List ℕ) → ((l ++ 10 ∷ []) ++ es) ++ rest ≡ l ++ 10 ∷ (es ++ rest)
+pub next_line : (l es rest : List ℕ) → ((l ++ 10 ∷ []) ++ es) ++ rest ≡ l ++ 10 ∷ (es ++ rest)
 next_line l es rest =
     ap (λ (v : List ℕ). v ++ rest) (append_assoc l (10 ∷ []) es) ∙ append_assoc l (10 ∷ es) rest
 

@@ -9,7 +9,7 @@ use Rattle.eon_model.specs.LineStream.{is_quit}
 use Rattle.eon_model.specs.NetworkFault as network
 use Rattle.eon_model.specs.Modes.{stream_limit, is_long_stream}
 use Rattle.plan_serve.specs.Lines.{has_no_end, quits_within, most_kept, ended, Splits}
-use Rattle.plan_serve.proofs.LineLaws.{no_end_parts, no_text_more, no_lines_more}
+use Rattle.plan_serve.proofs.LineLaws.{next_line, no_end_parts, no_text_more, no_lines_more}
 
 -- ---- one line
 
@@ -54,10 +54,6 @@ whole_line (b ∷ l) rest h =
     let parts = no_end_parts b l h in
     whole_byte b (l ++ 10 ∷ rest) ∙ ap (behind_byte b) (whole_line l rest parts.1)
     ∙ else_pair b (l ∷ (network.whole_lines rest).0, (network.whole_lines rest).1) parts.0
-
-next_line : (l es rest : List ℕ) → ((l ++ 10 ∷ []) ++ es) ++ rest ≡ l ++ 10 ∷ (es ++ rest)
-next_line l es rest =
-    ap (λ (v : List ℕ). v ++ rest) (append_assoc l (10 ∷ []) es) ∙ append_assoc l (10 ∷ es) rest
 
 whole_ended : (lines : List (List ℕ)) (rest : List ℕ) → IsTrue (list_all has_no_end lines) →
     (network.whole_lines (ended lines ++ rest)).0 ≡ lines ++ (network.whole_lines rest).0

@@ -1,28 +1,25 @@
 -- What a call of the planner read and wrote, for each status with which it ends.
-use Rattle.std.specs.Prelude.{◌≡◌, ◌≢◌, ◌⊎◌, ℕ, ◌+◌, ◌≤◌, ⊤, IsTrue, true, false, List, [], ◌∷◌, ◌++◌, length, take, Option, Some, None, IfSome, IsSomeAnd, All}
-use Rattle.std.specs.FinMap.{get}
+use Rattle.std.specs.Prelude.{◌≡◌, ◌≢◌, ◌⊎◌, ℕ, ◌≤◌, IsTrue, true, false, List, [], ◌∷◌, ◌++◌, length, take, Option, None, IfSome, All}
 use Rattle.std.specs.Io.KnownBytes.{Appends, Keeps}
 use Rattle.eon_model.specs.Services.{State}
 use Rattle.eon_model.specs.Legal.{Setup}
 use Rattle.eon_model.specs.Events.{Event}
-use Rattle.eon_model.specs.Modes.{Task, stream_limit, is_long_stream}
-use Rattle.eon_model.specs.Modes.Task.{Dry}
-use Rattle.eon_model.specs.TopLines.{usage_line, network_fault_line, network_long_line}
+use Rattle.eon_model.specs.Modes.{stream_limit, is_long_stream}
+use Rattle.eon_model.specs.TopLines.{network_fault_line, network_long_line}
 use Rattle.eon_model.specs.Answers.{takes_memory}
 use Rattle.eon_model.specs.LineStream.{lines_of}
 use Rattle.eon_model.specs.Run.{Runs, BeginsRun, MissesOnly, states_of}
-use Rattle.eon_model.specs.Later.{AnswersSoFar, later_line}
 use Rattle.eon_model.specs.LawsOfRuns.{IsLegalAndSound}
 use Rattle.eon_outside.specs.Faults.{Standing, counted, with_fault}
 use Rattle.eon_outside.specs.Reading.{NamedFiles}
 use Rattle.eon_outside.specs.WholeFile.{IsFile}
 use Rattle.net_file.specs.Told.{why_told}
-use Rattle.plan_core.specs.Built.{is_built}
 use Rattle.plan_serve.specs.declared.status.Status.{Status}
-use Rattle.plan_serve.specs.declared.status.Status.TheVariants.{Done, Words, NetRefused, NetLong, ReadFault, Memory, WriteFault, InputLong, Later}
+use Rattle.plan_serve.specs.declared.status.Status.TheVariants.{Done, NetRefused, NetLong, ReadFault, Memory, WriteFault, InputLong}
 use Rattle.plan_serve.specs.Files.{IsLeft, IsAcceptedFile, IsRefusedFile, IsLongFile}
 use Rattle.plan_serve.specs.Lines.{whole_lines, quits_within, most_read}
-use Rattle.plan_serve.specs.Outside.{Outside, NoFault, NotRead}
+use Rattle.plan_serve.specs.Answering.{AnswersNow}
+use Rattle.plan_serve.specs.Outside.{Outside, NoFault}
 
 -- ---- runs
 
@@ -32,7 +29,7 @@ pub record Serves (setup : Setup) (start : State) (bytes : List ℕ) (before now
   pub missed : List ℕ
   pub output : List ℕ
   pub changes : List Event
-  pub run : Runs (AnswersSoFar is_built) setup start None bytes missed output changes
+  pub run : Runs AnswersNow setup start None bytes missed output changes
   pub only : MissesOnly takes_memory missed 1 (lines_of bytes)
   pub sound : All (IsLegalAndSound setup) (states_of setup start run.answers)
   pub given : Appends before now output
@@ -41,7 +38,7 @@ pub record Serves (setup : Setup) (start : State) (bytes : List ℕ) (before now
 pub record Begins (setup : Setup) (start : State) (bytes : List ℕ) (before now : Option (List ℕ)) : Type 0 where
   pub missed : List ℕ
   pub part : List ℕ
-  pub run : BeginsRun (AnswersSoFar is_built) setup start None bytes missed part
+  pub run : BeginsRun AnswersNow setup start None bytes missed part
   pub only : MissesOnly takes_memory missed 1 (lines_of bytes)
   pub sound : All (IsLegalAndSound setup) (states_of setup start run.answers)
   pub given : Appends before now part
@@ -52,7 +49,7 @@ pub record GoesOnBehind (setup : Setup) (start : State) (bytes part : List ℕ) 
   pub rest : List ℕ
   pub changes : List Event
   pub more : rest ≢ []
-  pub run : Runs (AnswersSoFar is_built) setup start None bytes missed (part ++ rest) changes
+  pub run : Runs AnswersNow setup start None bytes missed (part ++ rest) changes
 
 -- ---- streams
 
@@ -134,6 +131,23 @@ pub record GivesLine (line : List ℕ) (before now : Option (List ℕ)) (old new
 abbrev pub Says : List ℕ → Outside → Outside → Type 0
 Says line before now = GivesLine line before.given now.given before.write_faults now.write_faults
 
+-- how a call ends that comes no further than the network
+abbrev pub EndsAtNetwork : List ℕ → Outside → Outside → Status → Type 0
+EndsAtNetwork net before now (NetRefused number why) =
+    (now.opened ≡ before.opened ++ net ∷ []) × (now.read_faults ≡ before.read_faults)
+    × IsRefusedFile before.files net number (why_told why)
+    × Says (network_fault_line number (why_told why)) before now
+EndsAtNetwork net before now NetLong =
+    (now.opened ≡ before.opened ++ net ∷ []) × (now.read_faults ≡ before.read_faults)
+    × IsLongFile before.files net × Says network_long_line before now
+EndsAtNetwork net before now ReadFault =
+    (now.read_faults ≡ counted before.read_faults) × (now.write_faults ≡ before.write_faults)
+    × (now.opened ≡ before.opened ++ net ∷ []) × Keeps before.given now.given
+EndsAtNetwork net before now Memory =
+    ((now.opened ≡ before.opened) ⊎ (now.opened ≡ before.opened ++ net ∷ [])) × NoFault before now
+    × Keeps before.given now.given
+EndsAtNetwork net before now _ = ⊥
+
 -- ---- `dry`
 
 -- the file of this name is the text of a network, and so it went over that network
@@ -185,66 +199,4 @@ DryEnds net commands before now WriteFault =
 DryEnds net commands before now ReadFault =
     (now.read_faults ≡ counted before.read_faults) × (now.write_faults ≡ before.write_faults)
     × FaultsReading net commands before now
-DryEnds net commands before now (NetRefused number why) =
-    (now.opened ≡ before.opened ++ net ∷ []) × (now.read_faults ≡ before.read_faults)
-    × IsRefusedFile before.files net number (why_told why)
-    × Says (network_fault_line number (why_told why)) before now
-DryEnds net commands before now NetLong =
-    (now.opened ≡ before.opened ++ net ∷ []) × (now.read_faults ≡ before.read_faults)
-    × IsLongFile before.files net × Says network_long_line before now
-DryEnds net commands before now Memory =
-    ((now.opened ≡ before.opened) ⊎ (now.opened ≡ before.opened ++ net ∷ [])) × NoFault before now
-    × Keeps before.given now.given
-DryEnds net commands before now _ = ⊥
-
--- ---- the whole call
-
--- nothing was done but to write this line
-abbrev pub SaysOnly : List ℕ → Outside → Outside → Type 0
-SaysOnly line before now = NotRead before now × Says line before now
-
--- there was no memory before anything was done
-abbrev pub DoesNothing : Outside → Outside → Type 0
-DoesNothing before now =
-    NotRead before now × (now.write_faults ≡ before.write_faults) × Keeps before.given now.given
-
--- How a call ends, by what the words ask for: the usage line where they ask for nothing, and `later` for a mode that is
--- not built.
-abbrev pub Ends : Option Task → Outside → Outside → Status → Type 0
-Ends (Some (Dry net commands)) before now status = DryEnds net commands before now status
-Ends None before now Words = SaysOnly usage_line before now
-Ends None before now Memory = DoesNothing before now
-Ends None before now _ = ⊥
-Ends (Some _) before now Later = SaysOnly later_line before now
-Ends (Some _) before now Memory = DoesNothing before now
-Ends (Some _) before now _ = ⊥
-
--- `Words` comes where the words ask for nothing, and `Later` where the mode is not built; want of memory is free
-abbrev pub AskedAt : Option Task → Status → Type 0
-AskedAt None status = (status ≡ Words) ⊎ (status ≡ Memory)
-AskedAt (Some (Dry net commands)) status = (status ≢ Words) × (status ≢ Later)
-AskedAt (Some _) status = (status ≡ Later) ⊎ (status ≡ Memory)
-
--- ---- when nothing is in the way
-
--- The files are told and there, the network is accepted, and the stream is not too long.
-pub record MayServe (told : NamedFiles) (net commands : List ℕ) : Type 0 where
-  pub setup : Setup
-  pub network : IsAcceptedFile (Some told) net setup
-  pub stream : List ℕ
-  pub file : get told commands ≡ Some stream
-  pub short : is_long_stream stream ≡ false
-
--- the words ask for a mode that is built, and its files allow it
-abbrev pub MayEnd : Option Task → Option NamedFiles → Type 0
-MayEnd (Some (Dry net commands)) (Some told) = MayServe told net commands
-MayEnd task files = ⊥
-
--- the sink is sure of room for the output of every run over these files, behind what it was given
-abbrev pub IsRoomy : Option Task → Option NamedFiles → Option (List ℕ) → Standing → Type 0
-IsRoomy (Some (Dry net commands)) files given standing =
-    IsSomeAnd given (λ bytes. (setup : Setup) (stream missed output : List ℕ) (changes : List Event)
-    → IsAcceptedFile files net setup → IsFile files commands stream
-    → Runs (AnswersSoFar is_built) setup [] None stream missed output changes
-    → IsSomeAnd standing.room (λ room. length bytes + length output ≤ room))
-IsRoomy task files given standing = ⊤
+DryEnds net commands before now status = EndsAtNetwork net before now status

@@ -1,7 +1,9 @@
 pub mod Answering
 pub mod Ends
 pub mod Files
+pub mod JournalEnds
 pub mod Lines
 pub mod Outside
 pub mod Session
 pub mod Status
+pub mod Top

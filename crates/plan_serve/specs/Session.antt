@@ -7,17 +7,16 @@ use Rattle.eon_model.specs.Legal.{Setup}
 use Rattle.eon_model.specs.Answers.{Answer, takes_memory}
 use Rattle.eon_model.specs.LineStream.{is_quit, MissesNoneFrom}
 use Rattle.eon_model.specs.Run.{AnswersLines, answers_text, state_at_end, MissesOnly}
-use Rattle.eon_model.specs.Later.{AnswersSoFar}
-use Rattle.plan_core.specs.Built.{is_built}
 use Rattle.plan_serve.specs.declared.status.Status.{Status}
 use Rattle.plan_serve.specs.declared.status.Status.TheVariants.{Done, WriteFault}
 use Rattle.plan_serve.specs.declared.answering.Flow.{Flow}
 use Rattle.plan_serve.specs.declared.answering.Flow.TheVariants.{On, Ended}
+use Rattle.plan_serve.specs.Answering.{AnswersNow}
 use Rattle.plan_serve.specs.Lines.{has_no_end, most_kept, Splits}
 
 -- the answers to these lines, from the first of a stream on
 abbrev pub Answered : Setup → List ℕ → State → List (List ℕ) → List Answer → Type 0
-Answered setup missed start lines answers = AnswersLines (AnswersSoFar is_built) setup missed 1 start None lines answers
+Answered setup missed start lines answers = AnswersLines AnswersNow setup missed 1 start None lines answers
 
 -- These lines are answered one after the other, from a state on. The answers come to this state and this text. Each
 -- missed line is that of a command that takes memory, and none is missed behind them.

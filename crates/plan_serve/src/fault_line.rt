@@ -1,17 +1,23 @@
-//! The line of a network that is refused.
+//! The lines of networks and journals that are refused.
 ghost use Rattle.std.specs.Prelude.{◌≡◌, ℕ, ◌+◌, ◌≤◌, ◌++◌, List, length};
-ghost use Rattle.eon_model.specs.TopLines.{why_word, network_fault_line};
+ghost use Rattle.eon_model.specs.TopLines.{why_word, journal_word, hex, network_fault_line, journal_fault_line, journal_other_line, journal_notempty_line};
 ghost use Rattle.net_file.specs.Told.{why_told};
+ghost use Rattle.journal_replay.specs.Replayed.{why_told as journal_why_told};
 
 use arrayvec::ArrayVec;
 use eon_base::number::digits;
+use hex::encode_to_slice;
+use journal_replay::JournalWhy;
 use net_file::Why;
 use std::marker::Model;
 
-/// The most bytes of such a line.
-const MOST_BYTES: usize = 64;
+/// The most bytes of such a line: two digests of 64 digits, and the words before.
+const MOST_BYTES: usize = 144;
 
-/// The line of a network that is refused: its first line with a fault, and the word of the cause.
+/// The digits of a digest.
+const DIGITS: usize = 64;
+
+/// The one line that is written of a network or a journal that is refused.
 #[derive(Drop)]
 pub(crate) struct FaultLine {
     bytes: ArrayVec<u8, MOST_BYTES>,
@@ -45,9 +51,32 @@ fn word_of(why: Why) -> &'static str
     }
 }
 
+/// The word of what is wrong with a journal.
+fn journal_word_of(why: JournalWhy) -> &'static str
+    ensures word { result.now ≡ journal_word (journal_why_told why) }
+    ensures short { length result.now ≤ 6 }
+{
+    match why {
+        JournalWhy::Head => "head",
+        JournalWhy::Record => "record",
+        JournalWhy::Event => "event",
+    }
+}
+
+/// Two lower-case digits for each byte of a digest.
+fn digits_of(digest: &[u8; 32]) -> [u8; DIGITS]
+    ensures { result ≡ hex digest.now }
+{
+    let mut text = [0; DIGITS];
+    match encode_to_slice(digest.as_slice(), &mut text) {
+        Ok(()) => text,
+        Err(_) => unreachable!(),
+    }
+}
+
 impl FaultLine {
-    /// The line of this first fault.
-    pub(crate) fn of(number: u32, why: Why) -> FaultLine
+    /// The network's first line with a fault, and the word of the cause.
+    pub(crate) fn of_network(number: u32, why: Why) -> FaultLine
         ensures { result ≡ network_fault_line number (why_told why) }
     {
         let mut line = FaultLine {
@@ -61,8 +90,51 @@ impl FaultLine {
         line
     }
 
+    /// The place where a journal is refused, and the word of what is wrong there.
+    pub(crate) fn of_journal(at: u64, why: JournalWhy) -> FaultLine
+        ensures { result ≡ journal_fault_line at (journal_why_told why) }
+    {
+        let mut line = FaultLine {
+            bytes: ArrayVec::new(),
+        };
+        line.append(b"journal ");
+        line.append(digits(at).bytes());
+        line.append(b" ");
+        line.append(journal_word_of(why).as_bytes());
+        line.append(b"\n");
+        line
+    }
+
+    /// The digest that a journal of another network keeps, and that of this network.
+    pub(crate) fn of_other(kept: &[u8; 32], own: &[u8; 32]) -> FaultLine
+        ensures { result ≡ journal_other_line kept.now own.now }
+    {
+        let mut line = FaultLine {
+            bytes: ArrayVec::new(),
+        };
+        line.append(b"journal other ");
+        line.append(&digits_of(kept));
+        line.append(b" ");
+        line.append(&digits_of(own));
+        line.append(b"\n");
+        line
+    }
+
+    /// How many bytes are there, where a journal was to be made.
+    pub(crate) fn of_not_empty(len: u64) -> FaultLine
+        ensures { result ≡ journal_notempty_line len }
+    {
+        let mut line = FaultLine {
+            bytes: ArrayVec::new(),
+        };
+        line.append(b"journal notempty ");
+        line.append(digits(len).bytes());
+        line.append(b"\n");
+        line
+    }
+
     fn append(&mut self, piece: &[u8])
-        requires { length self.old + length piece.now ≤ 64 }
+        requires { length self.old + length piece.now ≤ 144 }
         ensures { self.new ≡ self.old ++ piece.now }
     {
         match self.bytes.try_extend_from_slice(piece) {

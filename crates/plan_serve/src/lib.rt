@@ -5,12 +5,11 @@
 
 mod answering;
 mod fault_line;
+mod journal;
+mod network;
 mod session;
 pub mod status;
 pub mod top;
 
 pub use status::Status;
 pub use top::plan_main;
-
-#[cfg(test)]
-mod tests;

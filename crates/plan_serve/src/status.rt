@@ -3,9 +3,12 @@ ghost use Rattle.std.specs.Prelude.{◌≡◌, OnOk, OnErr};
 ghost use Rattle.std.specs.Io.KnownBytes.{Appends};
 ghost use Rattle.eon_outside.specs.Faults.{Stands};
 ghost use Rattle.eon_outside.specs.Writing.{AppendsPart};
+ghost use Rattle.plan_serve.specs.Status.{own_line};
+ghost use Rattle.plan_serve.specs.Ends.{GivesLine};
 
 use crate::fault_line::FaultLine;
 use eon_outside::{Failed, Sink, write_all};
+use journal_replay::JournalWhy;
 use net_file::Why;
 
 /// How the program is called.
@@ -21,7 +24,7 @@ const NET_LONG: &str = "net long\n";
 /// How a call of the planner ended.
 #[derive(Clone, Copy, Debug, PartialEq, Eq)]
 pub enum Status {
-    /// The stream was read to its end, or a `quit` line was answered.
+    /// All was done: a stream was read to its end, or a `quit` line was answered; a journal was made, or told.
     Done,
     /// The words ask for nothing; the usage line was written.
     Words,
@@ -31,6 +34,14 @@ pub enum Status {
     NetLong,
     /// A file could not be opened or read.
     ReadFault,
+    /// A call of the disk failed.
+    DiskFault,
+    /// The journal is none at this offset: its head, a record, or an event that cannot follow those before.
+    JournalRefused { at: u64, why: JournalWhy },
+    /// The journal is bound to a network of another digest.
+    JournalOther { kept: [u8; 32], own: [u8; 32] },
+    /// A journal was to be made, and the disk has so many bytes already.
+    NotEmpty { len: u64 },
     /// There was no memory, before anything was written.
     Memory,
     /// The output could not be written.
@@ -53,6 +64,9 @@ impl Status {
             Status::Words => 1,
             Status::NetRefused { .. } | Status::NetLong => 2,
             Status::ReadFault => 3,
+            Status::DiskFault => 4,
+            Status::JournalRefused { .. } | Status::JournalOther { .. } | Status::NotEmpty { .. } =>
+                5,
             Status::Memory => 6,
             Status::WriteFault => 7,
             Status::InputLong => 8,
@@ -68,10 +82,31 @@ impl Status {
     {
         match self {
             Status::Words => write_all(out, USAGE.as_bytes()),
-            Status::NetRefused { line, why } => write_all(out, FaultLine::of(line, why).bytes()),
+            Status::NetRefused { line, why } => {
+                write_all(out, FaultLine::of_network(line, why).bytes())
+            }
             Status::NetLong => write_all(out, NET_LONG.as_bytes()),
+            Status::JournalRefused { at, why } => {
+                write_all(out, FaultLine::of_journal(at, why).bytes())
+            }
+            Status::JournalOther { kept, own } => {
+                write_all(out, FaultLine::of_other(&kept, &own).bytes())
+            }
+            Status::NotEmpty { len } => write_all(out, FaultLine::of_not_empty(len).bytes()),
             Status::Later => write_all(out, LATER.as_bytes()),
             _ => write_all(out, &[]),
         }
+    }
+}
+
+/// Gives the line that says why nothing is done, if the status has one. What becomes of it does not change the status.
+pub(crate) fn refuse<K: Sink>(out: &mut K, status: Status) -> Status
+    ensures status { result ≡ status }
+    ensures given { GivesLine (own_line status) (K.given out.old) (K.given out.new) (K.standing out.old).faults (K.standing out.new).faults }
+    ensures room { (K.standing out.new).room ≡ (K.standing out.old).room }
+{
+    match status.write_line(out) {
+        Ok(()) => status,
+        Err(Failed) => status,
     }
 }

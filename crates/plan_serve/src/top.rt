@@ -1,28 +1,28 @@
 //! The top call.
-ghost use Rattle.std.specs.Prelude.{◌≡◌, ◌≢◌, ◌⊎◌, ◌<◌, ◌≤◌, ◌++◌, ◌∷◌, [], IfOk, IsTrue, length, string_bytes, map};
+ghost use Rattle.std.specs.Prelude.{◌≡◌, ◌≢◌, ◌⊎◌, ◌<◌, ◌≤◌, [], IfOk, IsTrue, length, string_bytes, map};
+ghost use Rattle.eon_model.specs.Disk.{LeavesOnly};
 ghost use Rattle.eon_model.specs.Legal.{Legal};
 ghost use Rattle.eon_model.specs.NetworkText.{is_setup};
 ghost use Rattle.eon_model.specs.Modes.{task_of};
 ghost use Rattle.eon_outside.specs.Faults.{counted};
 ghost use Rattle.eon_outside.specs.Reading.{IsThere};
-ghost use Rattle.plan_serve.specs.Files.{ReadsNetwork, IsLeft};
+ghost use Rattle.plan_serve.specs.Files.{IsLeft};
 ghost use Rattle.plan_serve.specs.Lines.{most_read};
-ghost use Rattle.plan_serve.specs.Status.{own_line};
-ghost use Rattle.plan_serve.specs.Outside.{outside};
-ghost use Rattle.plan_serve.specs.Ends.{Ends, AskedAt, DryEnds, StreamEnds, AnswersStream, CountsReads, StandsAt, GivesLine, MayEnd, IsRoomy};
+ghost use Rattle.plan_serve.specs.Outside.{outside, disk_seen};
+ghost use Rattle.plan_serve.specs.Ends.{DryEnds, StreamEnds, AnswersStream, CountsReads, StandsAt};
+ghost use Rattle.plan_serve.specs.Top.{Ends, AskedAt, NeedsNoDisk, MayBeLeft, NoDiskFault, MayEnd, IsRoomy};
 
+use crate::journal::{make_journal, tell_journal};
+use crate::network::read_network;
 use crate::session::Session;
-use crate::status::Status;
-use eon_outside::{Buffered, Failed, ReadEnd, ReadFault, Shelf, Sink, Start, read_up_to};
-use net_file::{NetFault, NetRefusal, read_net};
+use crate::status::{Status, refuse};
+use eon_disk::Deck;
+use eon_outside::{Buffered, Failed, Shelf, Sink, Start};
 use net_setup::NetSetup;
 use plan_core::Core;
 use plan_words::words::{Words, WordsFault, words_of};
 use std::alloc::{AllocError, Global};
 use std::marker::Brand;
-
-/// The most bytes of a network text.
-const LONGEST_NETWORK: usize = 1_048_576;
 
 /// How many bytes of the command stream are read at a time.
 const PIECE: usize = 65_536;
@@ -30,63 +30,42 @@ const PIECE: usize = 65_536;
 /// How many bytes of replies are held back.
 const HELD_BACK: usize = 65_536;
 
-/// Does what the words ask for. `dry NET COMMANDS` answers each line of a command stream over a network, up to `quit`:
-/// the files are opened by the shelf, and the replies are given to `out`.
-pub fn plan_main<H: Shelf, K: Sink>(
+/// Does what the words ask for. `dry NET COMMANDS` answers each line of a command stream over a network, up to `quit`.
+/// `init NET JOURNAL` makes a journal for the network, and `replay NET JOURNAL` tells how many events stand in it, and the
+/// list that they lead to. The files are opened by the shelf, the journal is attached to the disk, and what is said is
+/// given to `out`.
+pub fn plan_main<H: Shelf, K: Sink, D: Deck>(
     alloc: Global,
     words: &[String],
     shelf: &mut H,
     out: &mut K,
+    disk: &mut D,
 ) -> Status
     // What the words ask for.
     ensures words { AskedAt (task_of (map string_bytes words.now)) result }
-    // What was opened, read and given at each status, and how many calls failed.
+    // What was opened, read, given and kept at each status, and how many calls failed.
     ensures ends { Ends (task_of (map string_bytes words.now))
         (outside (H.files shelf.old) (H.opened shelf.old) (H.left shelf.old) (H.faults shelf.old) (K.given out.old) (K.standing out.old))
-        (outside (H.files shelf.new) (H.opened shelf.new) (H.left shelf.new) (H.faults shelf.new) (K.given out.new) (K.standing out.new)) result }
+        (outside (H.files shelf.new) (H.opened shelf.new) (H.left shelf.new) (H.faults shelf.new) (K.given out.new) (K.standing out.new))
+        (disk_seen (D.now disk.old) (D.images disk.old) (D.asked disk.old) (D.faults disk.old))
+        (disk_seen (D.now disk.new) (D.images disk.new) (D.asked disk.new) (D.faults disk.new)) result }
     ensures files { H.files shelf.new ≡ H.files shelf.old }
-    // Where nothing is in the way, all lines are answered, unless there is no memory.
-    ensures completeness { MayEnd (task_of (map string_bytes words.now)) (H.files shelf.old) → H.faults shelf.new ≢ counted (H.faults shelf.old) → (K.standing out.new).faults ≢ counted (K.standing out.old).faults → (result ≡ Status.Done) ⊎ (result ≡ Status.Memory) }
-    // So it is for a shelf and a sink of which no call fails.
-    ensures calm { MayEnd (task_of (map string_bytes words.now)) (H.files shelf.old) → IsTrue (H.calm shelf.old) → IsRoomy (task_of (map string_bytes words.now)) (H.files shelf.old) (K.given out.old) (K.standing out.old) → (result ≡ Status.Done) ⊎ (result ≡ Status.Memory) }
+    // Where no call of the disk is made, it is as before.
+    ensures untouched { NeedsNoDisk (task_of (map string_bytes words.now)) result → disk.new ≡ disk.old }
+    // What a crash may leave at any moment of the call.
+    ensures moments { LeavesOnly D.clock D.images_since disk.old disk.new (MayBeLeft (task_of (map string_bytes words.now)) result (D.images disk.old)) }
+    // Where nothing is in the way, all is done, unless there is no memory.
+    ensures completeness { MayEnd (task_of (map string_bytes words.now)) (H.files shelf.old) (D.now disk.old) → H.faults shelf.new ≢ counted (H.faults shelf.old) → (K.standing out.new).faults ≢ counted (K.standing out.old).faults → NoDiskFault (task_of (map string_bytes words.now)) (D.faults disk.old) (D.faults disk.new) → (result ≡ Status.Done) ⊎ (result ≡ Status.Memory) }
+    // So it is for a shelf and a sink of which no call fails, where none of the disk fails.
+    ensures calm { MayEnd (task_of (map string_bytes words.now)) (H.files shelf.old) (D.now disk.old) → IsTrue (H.calm shelf.old) → IsRoomy (task_of (map string_bytes words.now)) (H.files shelf.old) (D.now disk.old) (K.given out.old) (K.standing out.old) → NoDiskFault (task_of (map string_bytes words.now)) (D.faults disk.old) (D.faults disk.new) → (result ≡ Status.Done) ⊎ (result ≡ Status.Memory) }
 {
     match words_of(alloc, words) {
         Ok(Words::Dry { net, commands }) => dry(alloc, net, commands, shelf, out),
+        Ok(Words::Init { net, journal }) => make_journal(alloc, net, journal, shelf, out, disk),
+        Ok(Words::Replay { net, journal }) => tell_journal(alloc, net, journal, shelf, out, disk),
         Ok(_) => refuse(out, Status::Later),
         Err(WordsFault::Refused) => refuse(out, Status::Words),
         Err(WordsFault::Memory) => Status::Memory,
-    }
-}
-
-/// Gives the line that says why nothing is done, if the status has one. What becomes of it does not change the status.
-fn refuse<K: Sink>(out: &mut K, status: Status) -> Status
-    ensures status { result ≡ status }
-    ensures given { GivesLine (own_line status) (K.given out.old) (K.given out.new) (K.standing out.old).faults (K.standing out.new).faults }
-    ensures room { (K.standing out.new).room ≡ (K.standing out.old).room }
-{
-    match status.write_line(out) {
-        Ok(()) => status,
-        Err(Failed) => status,
-    }
-}
-
-/// Reads the network. Where it is not accepted, the call ends with the status.
-fn read_network<H: Shelf>(alloc: Global, name: &str, shelf: &mut H) -> Result<NetSetup, Status>
-    ensures network { ReadsNetwork (H.files shelf.old) name.now (H.faults shelf.old) (H.faults shelf.new) result }
-    ensures files { H.files shelf.new ≡ H.files shelf.old }
-    ensures opened { H.opened shelf.new ≡ H.opened shelf.old ++ name.now ∷ [] }
-    ensures calm { IsTrue (H.calm shelf.old) → IsTrue (H.calm shelf.new) × (IsThere (H.files shelf.old) name.now → result ≢ Err Status.ReadFault) }
-{
-    let mut bytes = Vec::new(alloc);
-    match read_up_to(shelf, name, &mut bytes, LONGEST_NETWORK) {
-        Ok(ReadEnd::Whole) => match read_net(alloc, bytes.as_slice()) {
-            Ok(setup) => Ok(setup),
-            Err(NetRefusal::Fault(NetFault { line, why })) => Err(Status::NetRefused { line, why }),
-            Err(NetRefusal::Memory) => Err(Status::Memory),
-        },
-        Ok(ReadEnd::Long) => Err(Status::NetLong),
-        Err(ReadFault::Failed) => Err(Status::ReadFault),
-        Err(ReadFault::Memory) => Err(Status::Memory),
     }
 }
 

@@ -1,7 +1,8 @@
-//! The program `eonplan`: hands its words, the files of the machine and standard output to `plan_main`,
-//! and ends with the status. It prints nothing itself.
+//! The program `eonplan`: hands its words, the files of the machine, standard output and a file for the journal to
+//! `plan_main`, and ends with the status. It prints nothing itself.
 #![tactic(auto)]
 
+use eon_disk::FileDeck;
 use eon_outside::{FileShelf, StdoutSink};
 use plan_serve::plan_main;
 use std::alloc::Global;
@@ -34,5 +35,13 @@ fn main(rt: HostRuntime) -> ExitCode {
     };
     let mut shelf = FileShelf::new(&rt);
     let mut out = StdoutSink::new(&rt);
-    ExitCode::from(plan_main(rt.alloc(), words.as_slice(), &mut shelf, &mut out).code())
+    let mut disk = FileDeck::new(&rt);
+    let status = plan_main(
+        rt.alloc(),
+        words.as_slice(),
+        &mut shelf,
+        &mut out,
+        &mut disk,
+    );
+    ExitCode::from(status.code())
 }

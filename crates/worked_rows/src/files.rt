@@ -3,6 +3,7 @@ ghost use Rattle.std.specs.Prelude.{◌≡◌, ◌≢◌, ◌⊎◌, IfOk};
 ghost use Rattle.eon_outside.specs.Faults.{counted};
 ghost use Rattle.eon_outside.specs.WholeFile.{IsFile, IsLonger};
 
+use eon_disk::{Deck, Disk, DiskFailed, FileDeck};
 use eon_outside::{ReadEnd, ReadFault, Shelf, read_up_to};
 use std::alloc::{AllocError, Global};
 
@@ -43,5 +44,20 @@ pub(crate) fn file_of<H: Shelf>(
         Ok(ReadEnd::Long) => Err(FileFault::Unread),
         Err(ReadFault::Failed) => Err(FileFault::Unread),
         Err(ReadFault::Memory) => Err(FileFault::Memory),
+    }
+}
+
+/// Takes all bytes away from a disk, whose file is made where it is not there.
+fn empty_disk<D: Deck>(disk: &mut D, name: &str) -> Result<(), DiskFailed> {
+    disk.attach(name, true)?;
+    disk.cut(0)?;
+    disk.sync()
+}
+
+/// Makes the file of this name where it is not there, and takes all its bytes away.
+pub(crate) fn empty_file(rt: &HostRuntime, name: &str) -> Result<(), FileFault> {
+    match empty_disk(&mut FileDeck::new(rt), name) {
+        Ok(()) => Ok(()),
+        Err(DiskFailed) => Err(FileFault::Unread),
     }
 }

@@ -2,6 +2,7 @@
 //! it writes with what is stored. A line that begins with `ok` stands for each case that came out so.
 #![tactic(auto)]
 
+mod call;
 mod case;
 mod files;
 

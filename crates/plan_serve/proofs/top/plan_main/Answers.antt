@@ -1,18 +1,166 @@
-use Rattle.std.proofs.Common.{refl}
-use Rattle.plan_serve.proofs.TopLaws.{dry_asks, completes, calm_read, calm_ends}
+use Rattle.std.proofs.Common.{refl, sym, subst, Option}
+use Rattle.eon_model.specs.Modes.{Task}
+use Rattle.eon_model.specs.Modes.Task.{Dry, Init, Replay}
+use Rattle.eon_model.specs.Disk.{LeavesOnly}
+use Rattle.plan_words.specs.declared.words.Words.TheVariants as word
+use Rattle.plan_serve.specs.Outside.{outside, disk_seen}
+use Rattle.plan_serve.specs.Top.{NeedsNoDisk, MayBeLeft}
+use Rattle.plan_serve.proofs.CallLaws.{task_is, ends_as, completes, calm_ends, there, none_made}
 use Rattle.plan_serve.proofs.top.plan_main.Goals as goal
 
+-- ---- Dry
+
 pub returns-in-Ok-Dry-clause-completeness : goal.returns-in-Ok-Dry-clause-completeness
-returns-in-Ok-Dry-clause-completeness g c = λ may no_read no_write.
-    completes _ _ _ c.dry.result
-    (dry_asks _ c.in-Ok-Dry.net c.in-Ok-Dry.commands _ _ _ c.dry.result c.in-Ok-Dry.ensures.task c.in-Ok-Dry.field-0-is
-    c.dry.ensures.ends) may no_read no_write
+returns-in-Ok-Dry-clause-completeness g c = λ may no_read no_write no_disk.
+    let task = Dry c.in-Ok-Dry.net.now c.in-Ok-Dry.commands.now in
+    let is = task_is _ (word.Dry c.in-Ok-Dry.net c.in-Ok-Dry.commands) _ c.in-Ok-Dry.ensures.task
+    c.in-Ok-Dry.field-0-is in
+    let shelf = c.args.shelf.now in
+    let later = c.dry.new.shelf in
+    let disk = c.args.disk.now in
+    let kept = c.args.disk.now in
+    let before = outside (g.H.Shelf.files shelf) (g.H.Shelf.opened shelf) (g.H.Shelf.left shelf) (g.H.Shelf.faults shelf)
+    (g.K.Sink.given c.args.out.now) (g.K.Sink.standing c.args.out.now) in
+    let now = outside (g.H.Shelf.files later) (g.H.Shelf.opened later) (g.H.Shelf.left later) (g.H.Shelf.faults later)
+    (g.K.Sink.given c.dry.new.out) (g.K.Sink.standing c.dry.new.out) in
+    let old = disk_seen (g.D.Disk.now disk) (g.D.Disk.images disk) (g.D.Disk.asked disk) (g.D.Disk.faults disk) in
+    let new = disk_seen (g.D.Disk.now kept) (g.D.Disk.images kept) (g.D.Disk.asked kept) (g.D.Disk.faults kept) in
+    let ends = ends_as _ task before now old new c.dry.result is c.dry.ensures.ends in
+    completes _ before now old new c.dry.result ends may no_read no_write no_disk
 
 pub returns-in-Ok-Dry-clause-calm : goal.returns-in-Ok-Dry-clause-calm
-returns-in-Ok-Dry-clause-calm g c = λ may calm roomy.
-    calm_ends _ _ _ (g.K.Sink.standing c.args.out.now) (g.K.Sink.standing c.dry.new.out) c.dry.result
-    (dry_asks _ c.in-Ok-Dry.net c.in-Ok-Dry.commands _ _ _ c.dry.result c.in-Ok-Dry.ensures.task c.in-Ok-Dry.field-0-is
-    c.dry.ensures.ends) may roomy
-    (calm_read _ c.in-Ok-Dry.net c.in-Ok-Dry.commands _ (g.H.Shelf.files c.args.shelf.now) c.dry.result
-    c.in-Ok-Dry.ensures.task c.in-Ok-Dry.field-0-is (c.dry.ensures.calm calm))
-    c.dry.ensures.room refl (g.met.K.Sink.sure c.dry.new.out)
+returns-in-Ok-Dry-clause-calm g c = λ may calm roomy no_disk.
+    let task = Dry c.in-Ok-Dry.net.now c.in-Ok-Dry.commands.now in
+    let is = task_is _ (word.Dry c.in-Ok-Dry.net c.in-Ok-Dry.commands) _ c.in-Ok-Dry.ensures.task
+    c.in-Ok-Dry.field-0-is in
+    let shelf = c.args.shelf.now in
+    let later = c.dry.new.shelf in
+    let disk = c.args.disk.now in
+    let kept = c.args.disk.now in
+    let before = outside (g.H.Shelf.files shelf) (g.H.Shelf.opened shelf) (g.H.Shelf.left shelf) (g.H.Shelf.faults shelf)
+    (g.K.Sink.given c.args.out.now) (g.K.Sink.standing c.args.out.now) in
+    let now = outside (g.H.Shelf.files later) (g.H.Shelf.opened later) (g.H.Shelf.left later) (g.H.Shelf.faults later)
+    (g.K.Sink.given c.dry.new.out) (g.K.Sink.standing c.dry.new.out) in
+    let old = disk_seen (g.D.Disk.now disk) (g.D.Disk.images disk) (g.D.Disk.asked disk) (g.D.Disk.faults disk) in
+    let new = disk_seen (g.D.Disk.now kept) (g.D.Disk.images kept) (g.D.Disk.asked kept) (g.D.Disk.faults kept) in
+    let ends = ends_as _ task before now old new c.dry.result is c.dry.ensures.ends in
+    let files = there _ task (g.H.Shelf.files shelf) (g.D.Disk.now disk) is may in
+    calm_ends _ before now old new (g.K.Sink.standing c.args.out.now) (g.K.Sink.standing c.dry.new.out) c.dry.result ends
+    may roomy (c.dry.ensures.calm calm files.0 files.1) c.dry.ensures.room refl
+    (g.met.K.Sink.sure c.dry.new.out) no_disk
+
+pub returns-in-Ok-Dry-clause-moments : goal.returns-in-Ok-Dry-clause-moments
+returns-in-Ok-Dry-clause-moments g c =
+    none_made g.D.Disk.clock g.D.Disk.images_since g.D.Disk.images g.met.D.Disk.only_now c.args.disk.now _ c.dry.result
+
+-- ---- Init
+
+pub returns-in-Ok-Init-clause-completeness : goal.returns-in-Ok-Init-clause-completeness
+returns-in-Ok-Init-clause-completeness g c = λ may no_read no_write no_disk.
+    let task = Init c.in-Ok-Init.net.now c.in-Ok-Init.journal.now in
+    let is = task_is _ (word.Init c.in-Ok-Init.net c.in-Ok-Init.journal) _ c.in-Ok-Init.ensures.task
+    c.in-Ok-Init.field-0-is in
+    let shelf = c.args.shelf.now in
+    let later = c.make_journal.new.shelf in
+    let disk = c.args.disk.now in
+    let kept = c.make_journal.new.disk in
+    let before = outside (g.H.Shelf.files shelf) (g.H.Shelf.opened shelf) (g.H.Shelf.left shelf) (g.H.Shelf.faults shelf)
+    (g.K.Sink.given c.args.out.now) (g.K.Sink.standing c.args.out.now) in
+    let now = outside (g.H.Shelf.files later) (g.H.Shelf.opened later) (g.H.Shelf.left later) (g.H.Shelf.faults later)
+    (g.K.Sink.given c.make_journal.new.out) (g.K.Sink.standing c.make_journal.new.out) in
+    let old = disk_seen (g.D.Disk.now disk) (g.D.Disk.images disk) (g.D.Disk.asked disk) (g.D.Disk.faults disk) in
+    let new = disk_seen (g.D.Disk.now kept) (g.D.Disk.images kept) (g.D.Disk.asked kept) (g.D.Disk.faults kept) in
+    let ends = ends_as _ task before now old new c.make_journal.result is c.make_journal.ensures.ends in
+    completes _ before now old new c.make_journal.result ends may no_read no_write no_disk
+
+pub returns-in-Ok-Init-clause-calm : goal.returns-in-Ok-Init-clause-calm
+returns-in-Ok-Init-clause-calm g c = λ may calm roomy no_disk.
+    let task = Init c.in-Ok-Init.net.now c.in-Ok-Init.journal.now in
+    let is = task_is _ (word.Init c.in-Ok-Init.net c.in-Ok-Init.journal) _ c.in-Ok-Init.ensures.task
+    c.in-Ok-Init.field-0-is in
+    let shelf = c.args.shelf.now in
+    let later = c.make_journal.new.shelf in
+    let disk = c.args.disk.now in
+    let kept = c.make_journal.new.disk in
+    let before = outside (g.H.Shelf.files shelf) (g.H.Shelf.opened shelf) (g.H.Shelf.left shelf) (g.H.Shelf.faults shelf)
+    (g.K.Sink.given c.args.out.now) (g.K.Sink.standing c.args.out.now) in
+    let now = outside (g.H.Shelf.files later) (g.H.Shelf.opened later) (g.H.Shelf.left later) (g.H.Shelf.faults later)
+    (g.K.Sink.given c.make_journal.new.out) (g.K.Sink.standing c.make_journal.new.out) in
+    let old = disk_seen (g.D.Disk.now disk) (g.D.Disk.images disk) (g.D.Disk.asked disk) (g.D.Disk.faults disk) in
+    let new = disk_seen (g.D.Disk.now kept) (g.D.Disk.images kept) (g.D.Disk.asked kept) (g.D.Disk.faults kept) in
+    let ends = ends_as _ task before now old new c.make_journal.result is c.make_journal.ensures.ends in
+    let files = there _ task (g.H.Shelf.files shelf) (g.D.Disk.now disk) is may in
+    calm_ends _ before now old new (g.K.Sink.standing c.args.out.now) (g.K.Sink.standing c.make_journal.new.out) c.make_journal.result ends
+    may roomy (c.make_journal.ensures.calm calm files) c.make_journal.ensures.room refl
+    (g.met.K.Sink.sure c.make_journal.new.out) no_disk
+
+pub returns-in-Ok-Init-clause-untouched : goal.returns-in-Ok-Init-clause-untouched
+returns-in-Ok-Init-clause-untouched g c = λ early.
+    let task = Init c.in-Ok-Init.net.now c.in-Ok-Init.journal.now in
+    let is = task_is _ (word.Init c.in-Ok-Init.net c.in-Ok-Init.journal) _ c.in-Ok-Init.ensures.task
+    c.in-Ok-Init.field-0-is in
+    c.make_journal.ensures.untouched (subst (λ (v : Option Task). NeedsNoDisk v c.make_journal.result) is early)
+
+pub returns-in-Ok-Init-clause-moments : goal.returns-in-Ok-Init-clause-moments
+returns-in-Ok-Init-clause-moments g c =
+    let task = Init c.in-Ok-Init.net.now c.in-Ok-Init.journal.now in
+    let is = task_is _ (word.Init c.in-Ok-Init.net c.in-Ok-Init.journal) _ c.in-Ok-Init.ensures.task
+    c.in-Ok-Init.field-0-is in
+    subst (λ (v : Option Task). LeavesOnly g.D.Disk.clock g.D.Disk.images_since c.args.disk.now c.make_journal.new.disk
+    (MayBeLeft v c.make_journal.result (g.D.Disk.images c.args.disk.now))) (sym is) c.make_journal.ensures.moments
+
+-- ---- Replay
+
+pub returns-in-Ok-Replay-clause-completeness : goal.returns-in-Ok-Replay-clause-completeness
+returns-in-Ok-Replay-clause-completeness g c = λ may no_read no_write no_disk.
+    let task = Replay c.in-Ok-Replay.net.now c.in-Ok-Replay.journal.now in
+    let is = task_is _ (word.Replay c.in-Ok-Replay.net c.in-Ok-Replay.journal) _ c.in-Ok-Replay.ensures.task
+    c.in-Ok-Replay.field-0-is in
+    let shelf = c.args.shelf.now in
+    let later = c.tell_journal.new.shelf in
+    let disk = c.args.disk.now in
+    let kept = c.tell_journal.new.disk in
+    let before = outside (g.H.Shelf.files shelf) (g.H.Shelf.opened shelf) (g.H.Shelf.left shelf) (g.H.Shelf.faults shelf)
+    (g.K.Sink.given c.args.out.now) (g.K.Sink.standing c.args.out.now) in
+    let now = outside (g.H.Shelf.files later) (g.H.Shelf.opened later) (g.H.Shelf.left later) (g.H.Shelf.faults later)
+    (g.K.Sink.given c.tell_journal.new.out) (g.K.Sink.standing c.tell_journal.new.out) in
+    let old = disk_seen (g.D.Disk.now disk) (g.D.Disk.images disk) (g.D.Disk.asked disk) (g.D.Disk.faults disk) in
+    let new = disk_seen (g.D.Disk.now kept) (g.D.Disk.images kept) (g.D.Disk.asked kept) (g.D.Disk.faults kept) in
+    let ends = ends_as _ task before now old new c.tell_journal.result is c.tell_journal.ensures.ends in
+    completes _ before now old new c.tell_journal.result ends may no_read no_write no_disk
+
+pub returns-in-Ok-Replay-clause-calm : goal.returns-in-Ok-Replay-clause-calm
+returns-in-Ok-Replay-clause-calm g c = λ may calm roomy no_disk.
+    let task = Replay c.in-Ok-Replay.net.now c.in-Ok-Replay.journal.now in
+    let is = task_is _ (word.Replay c.in-Ok-Replay.net c.in-Ok-Replay.journal) _ c.in-Ok-Replay.ensures.task
+    c.in-Ok-Replay.field-0-is in
+    let shelf = c.args.shelf.now in
+    let later = c.tell_journal.new.shelf in
+    let disk = c.args.disk.now in
+    let kept = c.tell_journal.new.disk in
+    let before = outside (g.H.Shelf.files shelf) (g.H.Shelf.opened shelf) (g.H.Shelf.left shelf) (g.H.Shelf.faults shelf)
+    (g.K.Sink.given c.args.out.now) (g.K.Sink.standing c.args.out.now) in
+    let now = outside (g.H.Shelf.files later) (g.H.Shelf.opened later) (g.H.Shelf.left later) (g.H.Shelf.faults later)
+    (g.K.Sink.given c.tell_journal.new.out) (g.K.Sink.standing c.tell_journal.new.out) in
+    let old = disk_seen (g.D.Disk.now disk) (g.D.Disk.images disk) (g.D.Disk.asked disk) (g.D.Disk.faults disk) in
+    let new = disk_seen (g.D.Disk.now kept) (g.D.Disk.images kept) (g.D.Disk.asked kept) (g.D.Disk.faults kept) in
+    let ends = ends_as _ task before now old new c.tell_journal.result is c.tell_journal.ensures.ends in
+    let files = there _ task (g.H.Shelf.files shelf) (g.D.Disk.now disk) is may in
+    calm_ends _ before now old new (g.K.Sink.standing c.args.out.now) (g.K.Sink.standing c.tell_journal.new.out) c.tell_journal.result ends
+    may roomy (c.tell_journal.ensures.calm calm files) c.tell_journal.ensures.room refl
+    (g.met.K.Sink.sure c.tell_journal.new.out) no_disk
+
+pub returns-in-Ok-Replay-clause-untouched : goal.returns-in-Ok-Replay-clause-untouched
+returns-in-Ok-Replay-clause-untouched g c = λ early.
+    let task = Replay c.in-Ok-Replay.net.now c.in-Ok-Replay.journal.now in
+    let is = task_is _ (word.Replay c.in-Ok-Replay.net c.in-Ok-Replay.journal) _ c.in-Ok-Replay.ensures.task
+    c.in-Ok-Replay.field-0-is in
+    c.tell_journal.ensures.untouched (subst (λ (v : Option Task). NeedsNoDisk v c.tell_journal.result) is early)
+
+pub returns-in-Ok-Replay-clause-moments : goal.returns-in-Ok-Replay-clause-moments
+returns-in-Ok-Replay-clause-moments g c =
+    let task = Replay c.in-Ok-Replay.net.now c.in-Ok-Replay.journal.now in
+    let is = task_is _ (word.Replay c.in-Ok-Replay.net c.in-Ok-Replay.journal) _ c.in-Ok-Replay.ensures.task
+    c.in-Ok-Replay.field-0-is in
+    subst (λ (v : Option Task). LeavesOnly g.D.Disk.clock g.D.Disk.images_since c.args.disk.now c.tell_journal.new.disk
+    (MayBeLeft v c.tell_journal.result (g.D.Disk.images c.args.disk.now))) (sym is) c.tell_journal.ensures.moments

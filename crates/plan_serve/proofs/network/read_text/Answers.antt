@@ -1,6 +1,6 @@
 use Rattle.std.proofs.Common.{refl}
 use Rattle.plan_serve.proofs.TopLaws.{long_file}
-use Rattle.plan_serve.proofs.top.read_network.Goals as goal
+use Rattle.plan_serve.proofs.network.read_text.Goals as goal
 
 pub returns-in-Ok-Long-clause-network : goal.returns-in-Ok-Long-clause-network
 returns-in-Ok-Long-clause-network g c =

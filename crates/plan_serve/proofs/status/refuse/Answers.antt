@@ -1,7 +1,7 @@
 use Rattle.eon_outside.specs.declared.reading.Failed.{Failed}
 use Rattle.plan_serve.specs.Status.{own_line}
 use Rattle.plan_serve.proofs.TopLaws.{line_given, part_given}
-use Rattle.plan_serve.proofs.top.refuse.Goals as goal
+use Rattle.plan_serve.proofs.status.refuse.Goals as goal
 
 pub returns-in-Ok-clause-given : goal.returns-in-Ok-clause-given
 returns-in-Ok-clause-given g c =

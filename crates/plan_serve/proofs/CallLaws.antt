@@ -1,0 +1,388 @@
+-- When a call does all that it is asked, by what the words ask for.
+use Rattle.std.proofs.Common.{◌≡◌, ◌≢◌, refl, sym, ◌∙◌, ap, subst, ◌⊎◌, inl, inr, ℕ, ◌+◌, ◌<◌, ◌≤◌, List, [], ◌∷◌, ◌++◌, length, length-append, take, drop, Option, Some, None, arith}
+use Rattle.std.specs.Prelude.{IfSome, IsSomeAnd, IsSome, is_some, ⊤}
+use Rattle.std.specs.FinMap.{get}
+use Rattle.std.specs.Io.KnownBytes.{Appends}
+use Rattle.std.proofs.lemmas.List.{take-append-drop}
+use Rattle.std.proofs.lemmas.Bool.{both_ways}
+use Rattle.eon_model.specs.Legal.{Setup}
+use Rattle.eon_model.specs.Events.{Event}
+use Rattle.eon_model.specs.NetworkText.{IsNetworkTextOf}
+use Rattle.eon_model.specs.Journal.{Stands}
+use Rattle.eon_model.specs.JournalFault.{IsKept, IsRefusedAt}
+use Rattle.eon_model.specs.Replay.{replay}
+use Rattle.eon_model.specs.TopLines.{init_line, replay_text}
+use Rattle.eon_model.proofs.TextNumbers.{some_is}
+use Rattle.eon_model.proofs.NetworkUniqueLaws.{network_text-unique}
+use Rattle.eon_model.proofs.RefusalLaws.{standing-not_refused, standing-not_other}
+use Rattle.eon_model.specs.Modes.{Task, is_long_stream}
+use Rattle.eon_model.specs.Modes.Task.{Dry, Init, Serve, Replay, Drive, Migrate, Live, Room}
+use Rattle.eon_model.specs.Disk.{LeavesOnly}
+use Rattle.plan_words.specs.declared.words.Words as words
+use Rattle.plan_words.specs.AreWords.{task_asked}
+use Rattle.file_digest.specs.Digest.{digest as digest_of}
+use Rattle.eon_outside.specs.Faults.{Standing, counted, IsSure}
+use Rattle.eon_outside.specs.Reading.{NamedFiles, IsThere}
+use Rattle.eon_outside.specs.WholeFile.{IsFile}
+use Rattle.journal_replay.specs.Replayed.{why_told}
+use Rattle.plan_journal.proofs.MomentLaws.{started}
+use Rattle.plan_serve.specs.declared.status.Status.{Status}
+use Rattle.plan_serve.specs.declared.status.Status.TheVariants.{Done, NetRefused, NetLong, ReadFault, DiskFault, JournalRefused, JournalOther, NotEmpty, Memory, WriteFault, InputLong}
+use Rattle.plan_serve.specs.Files.{IsAcceptedFile, IsDigestedFile}
+use Rattle.plan_serve.specs.Outside.{Outside, Output, output_of, DiskSeen}
+use Rattle.plan_serve.specs.Ends.{GoesOnBehind, EndsAtNetwork, DryEnds}
+use Rattle.plan_serve.specs.JournalEnds.{Tells, MakeEnds, InitEnds, TellEnds, ReplayEnds}
+use Rattle.plan_serve.proofs.JournalModeLaws.{made_left}
+use Rattle.plan_serve.proofs.TopLaws.{some_left}
+use Rattle.plan_serve.specs.Top.{Ends, MayServe, MayMake, MayTell, MayEnd, MayBeLeft, NoDiskFault, HasRoom, IsRoomy}
+
+-- ---- what the words ask for
+
+pub task_is : (w v : words.Words) (task : Option Task) → task ≡ Some (task_asked w) → w ≡ v → task ≡ Some (task_asked v)
+task_is w v task asked is = asked ∙ ap (λ u. Some (task_asked u)) is
+
+pub ends_as : (task : Option Task) (t : Task) (before now : Outside) (old new : DiskSeen) (status : Status) →
+    task ≡ Some t → Ends (Some t) before now old new status → Ends task before now old new status
+ends_as task t before now old new status is h =
+    subst (λ (v : Option Task). Ends v before now old new status) (sym is) h
+
+-- the files that a mode reads are there
+abbrev pub IsThereFor : Task → Option NamedFiles → Type 0
+IsThereFor (Dry net commands) files = IsThere files net × IsThere files commands
+IsThereFor (Init net journal) files = IsThere files net
+IsThereFor (Replay net journal) files = IsThere files net
+IsThereFor t files = ⊤
+
+-- ---- one file, one network
+
+one_file : (told : NamedFiles) (name x y : List ℕ) → get told name ≡ Some x → get told name ≡ Some y → x ≡ y
+one_file told name x y p q = some_is x y (sym p ∙ q)
+
+is_there : (told : NamedFiles) (name bytes : List ℕ) → get told name ≡ Some bytes → IsThere (Some told) name
+is_there told name bytes is = ap (λ o. is_some o) is
+
+pub same_file : (told : NamedFiles) (files : Option NamedFiles) (name bytes : List ℕ) → files ≡ Some told →
+    IsFile files name bytes → get told name ≡ Some bytes
+same_file told files name bytes is h = subst (λ (v : Option NamedFiles). IsFile v name bytes) is h
+
+-- what is accepted is not refused
+module _ (told : NamedFiles) (net : List ℕ) (setup : Setup) (good : IsAcceptedFile (Some told) net setup)
+    (before now : Outside) (files : before.files ≡ Some told) where
+  pub accepted_ends : (status : Status) → EndsAtNetwork net before now status → (status ≡ ReadFault → ⊥) →
+      status ≡ Memory
+  accepted_ends Memory h no_read = refl
+  accepted_ends ReadFault h no_read = absurd (no_read refl)
+  accepted_ends (NetRefused number why) h no_read =
+      let bad = h.2 in
+      absurd (bad.no_text setup (subst (λ (v : List ℕ). IsNetworkTextOf v setup)
+      (one_file told net good.0 bad.bytes good.1 (same_file told before.files net bad.bytes files bad.told)) good.2.text))
+  accepted_ends NetLong h no_read =
+      let bad = h.2 in
+      let short = good.2.short in
+      let same : length good.0 ≡ length bad.0 =
+      ap length (one_file told net good.0 bad.0 good.1 (same_file told before.files net bad.0 files bad.1)) in
+      let long = bad.2 in
+      absurd (omega arith)
+  accepted_ends _ h no_read = absurd h
+
+-- ---- the ends of each mode, where no call failed
+
+dry_done : (told : NamedFiles) (net commands : List ℕ) (before now : Outside) (status : Status) →
+    before.files ≡ Some told → DryEnds net commands before now status → MayServe told net commands →
+    (status ≡ ReadFault → ⊥) → (status ≡ WriteFault → ⊥) → (status ≡ Done) ⊎ (status ≡ Memory)
+dry_done told net commands before now Done files h may no_read no_write = inl refl
+dry_done told net commands before now ReadFault files h may no_read no_write = absurd (no_read refl)
+dry_done told net commands before now WriteFault files h may no_read no_write = absurd (no_write refl)
+dry_done told net commands before now InputLong files h may no_read no_write =
+    let long = h.2.2 in
+    let same = one_file told commands long.stream may.stream
+    (same_file told before.files commands long.stream files long.told) may.file in
+    absurd (both_ways (is_long_stream may.stream) may.short (sym (ap is_long_stream same) ∙ long.long))
+dry_done told net commands before now Memory files h may no_read no_write = inr refl
+dry_done told net commands before now (NetRefused number why) files h may no_read no_write =
+    inr (accepted_ends told net may.setup may.network before now files (NetRefused number why) h no_read)
+dry_done told net commands before now NetLong files h may no_read no_write =
+    inr (accepted_ends told net may.setup may.network before now files NetLong h no_read)
+dry_done told net commands before now _ files h may no_read no_write = absurd h
+
+-- the disk tells these bytes
+told_bytes : (o : Option (List ℕ)) (bytes : List ℕ) (P : List ℕ → Type 0) → o ≡ Some bytes → IfSome o P → P bytes
+told_bytes o bytes P is h = subst (λ (v : Option (List ℕ)). IfSome v P) is h
+
+make_done : (digest journal : List ℕ) (before now : Output) (old new : DiskSeen) (status : Status) → old.bytes ≡ Some [] →
+    MakeEnds digest journal before now old new status → (status ≡ WriteFault → ⊥) → (status ≡ DiskFault → ⊥) →
+    status ≡ Done
+make_done digest journal before now old new Done told h no_write no_disk = refl
+make_done digest journal before now old new WriteFault told h no_write no_disk = absurd (no_write refl)
+make_done digest journal before now old new DiskFault told h no_write no_disk = absurd (no_disk refl)
+make_done digest journal before now old new (NotEmpty len) told h no_write no_disk =
+    let k = told_bytes old.bytes [] (λ bytes. (len ≡ length bytes) × (0 < len) × (new.bytes ≡ Some bytes)) told h.1 in
+    let a : len ≡ 0 = k.0 in
+    let b : 0 < len = k.1 in
+    absurd (omega (arith, a, b))
+make_done digest journal before now old new _ told h no_write no_disk = absurd h.2
+
+init_done : (told : NamedFiles) (net journal bytes : List ℕ) (before now : Outside) (old new : DiskSeen) (status : Status) →
+    before.files ≡ Some told → old.bytes ≡ Some bytes → InitEnds net journal before now old new status →
+    MayMake told net bytes → (status ≡ ReadFault → ⊥) → (status ≡ WriteFault → ⊥) → (status ≡ DiskFault → ⊥) →
+    (status ≡ Done) ⊎ (status ≡ Memory)
+init_done told net journal bytes before now old new status files disk (inl h) may no_read no_write no_disk =
+    inr (accepted_ends told net may.setup may.network before now files status h.1 no_read)
+init_done told net journal bytes before now old new status files disk (inr h) may no_read no_write no_disk =
+    inl (make_done h.1.1 journal (output_of before) (output_of now) old new status (disk ∙ ap (λ v. Some v) may.empty)
+    h.1.3 no_write no_disk)
+
+-- the network of a file, and its digest
+record IsSame (a b : Setup) (x y : List ℕ) : Type 0 where
+  setup : a ≡ b
+  digest : x ≡ y
+
+one_network : (told : NamedFiles) (files : Option NamedFiles) (net : List ℕ) (a b : Setup) (x y : List ℕ) →
+    files ≡ Some told → IsDigestedFile files net a x → IsDigestedFile (Some told) net b y → IsSame a b x y
+one_network told files net a b x y is p q =
+    let same = one_file told net p.bytes q.bytes (same_file told files net p.bytes is p.told) q.told in record {
+      setup = network_text-unique a b p.accepted.text.in_range q.accepted.text.in_range
+          (sym p.accepted.text.is ∙ same ∙ q.accepted.text.is);
+      digest = p.digested ∙ ap digest_of same ∙ sym q.digested;
+    }
+
+tell_done : (setup : Setup) (digest journal bytes : List ℕ) (before now : Output) (old new : DiskSeen) (status : Status)
+    (events : List Event) (place : ℕ) → old.bytes ≡ Some bytes → Stands bytes digest setup.journal events place →
+    IsSome (replay setup events) → TellEnds setup digest journal before now old new status →
+    (status ≡ WriteFault → ⊥) → (status ≡ DiskFault → ⊥) → (status ≡ Done) ⊎ (status ≡ Memory)
+tell_done setup digest journal bytes before now old new Done events place told stands goes h no_write no_disk = inl refl
+tell_done setup digest journal bytes before now old new Memory events place told stands goes h no_write no_disk = inr refl
+tell_done setup digest journal bytes before now old new WriteFault events place told stands goes h no_write no_disk =
+    absurd (no_write refl)
+tell_done setup digest journal bytes before now old new DiskFault events place told stands goes h no_write no_disk =
+    absurd (no_disk refl)
+tell_done setup digest journal bytes before now old new (JournalRefused at why) events place told stands goes h no_write no_disk =
+    absurd (standing-not_refused setup bytes digest events place at (why_told why) stands goes
+    (told_bytes old.bytes bytes (λ b. IsRefusedAt setup b digest at (why_told why)) told h.1))
+tell_done setup digest journal bytes before now old new (JournalOther kept own) events place told stands goes h no_write no_disk =
+    let k = told_bytes old.bytes bytes (λ b. IsKept b setup.journal kept × (kept ≢ digest) × (own ≡ digest)) told h.1 in
+    absurd (standing-not_other setup bytes digest events place stands (record { kept = kept; keeps = k.0; differs = k.1 }))
+tell_done setup digest journal bytes before now old new _ events place told stands goes h no_write no_disk = absurd h.1.3
+
+replay_done : (told : NamedFiles) (net journal bytes : List ℕ) (before now : Outside) (old new : DiskSeen) (status : Status) →
+    before.files ≡ Some told → old.bytes ≡ Some bytes → ReplayEnds net journal before now old new status →
+    MayTell told net bytes → (status ≡ ReadFault → ⊥) → (status ≡ WriteFault → ⊥) → (status ≡ DiskFault → ⊥) →
+    (status ≡ Done) ⊎ (status ≡ Memory)
+replay_done told net journal bytes before now old new status files disk h may no_read no_write no_disk = elim h.1 [
+  | inl k ↦ inr (accepted_ends told net may.setup (may.network.bytes, may.network.told, may.network.accepted) before now files
+      status k.1 no_read)
+  | inr k ↦
+      let same = one_network told before.files net k.1.0 may.setup k.1.1 may.digest files k.1.2 may.network in
+      let stands = subst (λ (d : List ℕ). Stands bytes d k.1.0.journal may.events may.place) (sym same.digest)
+      (subst (λ (s : Setup). Stands bytes may.digest s.journal may.events may.place) (sym same.setup) may.stands) in
+      let goes = subst (λ (s : Setup). IsSome (replay s may.events)) (sym same.setup) may.replays in
+      tell_done k.1.0 k.1.1 journal bytes (output_of before) (output_of now) old new status may.events may.place disk stands
+      goes k.1.3 no_write no_disk
+]
+
+-- ---- all modes
+
+done : (task : Option Task) (before now : Outside) (old new : DiskSeen) (status : Status) →
+    (files : Option NamedFiles) (bytes : Option (List ℕ)) → before.files ≡ files → old.bytes ≡ bytes →
+    Ends task before now old new status → MayEnd task files bytes → (status ≡ ReadFault → ⊥) →
+    (status ≡ WriteFault → ⊥) → (status ≡ DiskFault → ⊥) → (status ≡ Done) ⊎ (status ≡ Memory)
+done (Some (Dry net commands)) before now old new status (Some told) bytes is disk h may no_read no_write no_disk =
+    dry_done told net commands before now status is h may no_read no_write
+done (Some (Init net journal)) before now old new status (Some told) (Some bytes) is disk h may no_read no_write no_disk =
+    init_done told net journal bytes before now old new status is disk h may no_read no_write no_disk
+done (Some (Replay net journal)) before now old new status (Some told) (Some bytes) is disk h may no_read no_write no_disk =
+    replay_done told net journal bytes before now old new status is disk h may no_read no_write no_disk
+done (Some (Dry net commands)) before now old new status None bytes is disk h may no_read no_write no_disk = absurd may
+done (Some (Init net journal)) before now old new status None bytes is disk h may no_read no_write no_disk = absurd may
+done (Some (Init net journal)) before now old new status (Some told) None is disk h may no_read no_write no_disk = absurd may
+done (Some (Replay net journal)) before now old new status None bytes is disk h may no_read no_write no_disk = absurd may
+done (Some (Replay net journal)) before now old new status (Some told) None is disk h may no_read no_write no_disk = absurd may
+done (Some (Serve net journal commands)) before now old new status files bytes is disk h may no_read no_write no_disk = absurd may
+done (Some (Drive net seed count)) before now old new status files bytes is disk h may no_read no_write no_disk = absurd may
+done (Some (Migrate net next journal)) before now old new status files bytes is disk h may no_read no_write no_disk = absurd may
+done (Some (Live net journal commands)) before now old new status files bytes is disk h may no_read no_write no_disk = absurd may
+done (Some (Room net journal commands)) before now old new status files bytes is disk h may no_read no_write no_disk = absurd may
+done None before now old new status files bytes is disk h may no_read no_write no_disk = absurd may
+
+-- ---- no call failed
+
+read_counted : (task : Option Task) (before now : Outside) (old new : DiskSeen) → Ends task before now old new ReadFault →
+    now.read_faults ≡ counted before.read_faults
+read_counted (Some (Dry net commands)) before now old new h = h.0
+read_counted (Some (Init net journal)) before now old new h = elim h [ inl k ↦ k.1.0 | inr k ↦ absurd k.1.3.2 ]
+read_counted (Some (Replay net journal)) before now old new h =
+    elim h.1 [ inl k ↦ k.1.0 | inr k ↦ absurd k.1.3.1.3 ]
+read_counted (Some (Serve net journal commands)) before now old new h = absurd h
+read_counted (Some (Drive net seed count)) before now old new h = absurd h
+read_counted (Some (Migrate net next journal)) before now old new h = absurd h
+read_counted (Some (Live net journal commands)) before now old new h = absurd h
+read_counted (Some (Room net journal commands)) before now old new h = absurd h
+read_counted None before now old new h = absurd h
+
+write_counted : (task : Option Task) (before now : Outside) (old new : DiskSeen) → Ends task before now old new WriteFault →
+    now.write_faults ≡ counted before.write_faults
+write_counted (Some (Dry net commands)) before now old new h = h.2
+write_counted (Some (Init net journal)) before now old new h = elim h [ inl k ↦ absurd k.1 | inr k ↦ k.1.3.2.1 ]
+write_counted (Some (Replay net journal)) before now old new h =
+    elim h.1 [ inl k ↦ absurd k.1 | inr k ↦ k.1.3.1.3.1 ]
+write_counted (Some (Serve net journal commands)) before now old new h = absurd h
+write_counted (Some (Drive net seed count)) before now old new h = absurd h
+write_counted (Some (Migrate net next journal)) before now old new h = absurd h
+write_counted (Some (Live net journal commands)) before now old new h = absurd h
+write_counted (Some (Room net journal commands)) before now old new h = absurd h
+write_counted None before now old new h = absurd h
+
+disk_counted : (task : Option Task) (before now : Outside) (old new : DiskSeen) → Ends task before now old new DiskFault →
+    NoDiskFault task old.faults new.faults → ⊥
+disk_counted (Some (Dry net commands)) before now old new h none = h
+disk_counted (Some (Init net journal)) before now old new h none = elim h [ inl k ↦ k.1 | inr k ↦ none k.1.3.0.1 ]
+disk_counted (Some (Replay net journal)) before now old new h none =
+    elim h.1 [ inl k ↦ k.1 | inr k ↦ none k.1.3.0.1 ]
+disk_counted (Some (Serve net journal commands)) before now old new h none = h
+disk_counted (Some (Drive net seed count)) before now old new h none = h
+disk_counted (Some (Migrate net next journal)) before now old new h none = h
+disk_counted (Some (Live net journal commands)) before now old new h none = h
+disk_counted (Some (Room net journal commands)) before now old new h none = h
+disk_counted None before now old new h none = h
+
+-- it did not end so
+not_ended : (task : Option Task) (before now : Outside) (old new : DiskSeen) (status other : Status) →
+    Ends task before now old new status → (Ends task before now old new other → ⊥) → status ≡ other → ⊥
+not_ended task before now old new status other h never is =
+    never (subst (λ (v : Status). Ends task before now old new v) is h)
+
+pub completes : (task : Option Task) (before now : Outside) (old new : DiskSeen) (status : Status) →
+    Ends task before now old new status → MayEnd task before.files old.bytes →
+    now.read_faults ≢ counted before.read_faults → now.write_faults ≢ counted before.write_faults →
+    NoDiskFault task old.faults new.faults → (status ≡ Done) ⊎ (status ≡ Memory)
+completes task before now old new status h may no_read no_write no_disk =
+    done task before now old new status before.files old.bytes refl refl h may
+    (not_ended task before now old new status ReadFault h (λ k. no_read (read_counted task before now old new k)))
+    (not_ended task before now old new status WriteFault h (λ k. no_write (write_counted task before now old new k)))
+    (not_ended task before now old new status DiskFault h (λ k. disk_counted task before now old new k no_disk))
+
+-- ---- objects of which no call fails
+
+room_broken : (room : Option ℕ) (bytes : List ℕ) (now : Option (List ℕ)) (old new : ℕ) (part rest : List ℕ) →
+    IsSomeAnd room (λ r. length bytes + length (part ++ rest) ≤ r) →
+    Appends (Some bytes) now part → new ≡ counted old → IfSome room (λ r. 0 < new → IfSome now (λ bytes. r ≤ length bytes)) →
+    (rest ≡ [] → ⊥) → ⊥
+room_broken None bytes now old new part rest enough given counts sure more = enough
+room_broken (Some r) bytes None old new part rest enough given counts sure more = given
+room_broken (Some r) bytes (Some all) old new part [] enough given counts sure more = more refl
+room_broken (Some r) bytes (Some all) old new part (b ∷ rest) enough given counts sure more =
+    let full = sure (omega (arith, counts)) in
+    let a : length all ≡ length bytes + length part = ap length given ∙ length-append bytes part in
+    let c = length-append part (b ∷ rest) in
+    omega (arith, full, enough, a, c)
+
+-- a text for which there is room is given whole
+tells_broken : (text : List ℕ) (before now : Output) (old new : Standing) → Tells text before now WriteFault →
+    HasRoom before.given old (length text) → new.room ≡ old.room → new.faults ≡ now.faults → IsSure new now.given → ⊥
+tells_broken text before now old new h roomy same counts sure = by_given before.given h.0.2 roomy
+  where
+    n : ℕ
+    n = h.0.0
+
+    by_given : (given : Option (List ℕ)) → Appends given now.given (take n text) → HasRoom given old (length text) → ⊥
+    by_given None appends room = room
+    by_given (Some bytes) appends room =
+        room_broken new.room bytes now.given before.faults new.faults (take n text) (drop n text)
+        (subst (λ (v : Option ℕ). IsSomeAnd v (λ r. length bytes + length (take n text ++ drop n text) ≤ r)) (sym same)
+        (subst (λ (v : List ℕ). IsSomeAnd old.room (λ r. length bytes + length v ≤ r)) (sym (take-append-drop n text)) room))
+        appends (counts ∙ h.1) sure (some_left n text h.0.1)
+
+dry_broken : (net commands : List ℕ) (disk : Option (List ℕ)) (before now : Outside) (old new : Standing) →
+    DryEnds net commands before now WriteFault → IsRoomy (Some (Dry net commands)) before.files disk before.given old →
+    new.room ≡ old.room → new.faults ≡ now.write_faults → IsSure new now.given → ⊥
+dry_broken net commands disk before now old new h roomy same counts sure =
+    by_given before.given h.3.2.begins.given h.3.2.early roomy
+  where
+    by_given : (given : Option (List ℕ)) → Appends given now.given h.3.2.begins.part →
+        IfSome given (λ _. GoesOnBehind h.3.0 [] h.3.2.stream h.3.2.begins.part) →
+        IsRoomy (Some (Dry net commands)) before.files disk given old → ⊥
+    by_given None appends early roomy = roomy
+    by_given (Some bytes) appends early roomy =
+        room_broken new.room bytes now.given before.write_faults new.faults h.3.2.begins.part early.rest
+        (subst (λ (v : Option ℕ). IsSomeAnd v (λ r. length bytes + length (h.3.2.begins.part ++ early.rest) ≤ r)) (sym same)
+        (roomy h.3.0 h.3.2.stream early.missed (h.3.2.begins.part ++ early.rest) early.changes h.3.1 h.3.2.told early.run))
+        appends (counts ∙ h.2) sure early.more
+
+broken : (task : Option Task) (before now : Outside) (disk later : DiskSeen) (old new : Standing) →
+    Ends task before now disk later WriteFault → IsRoomy task before.files disk.bytes before.given old →
+    new.room ≡ old.room → new.faults ≡ now.write_faults → IsSure new now.given → ⊥
+broken (Some (Dry net commands)) before now disk later old new h roomy same counts sure =
+    dry_broken net commands disk.bytes before now old new h roomy same counts sure
+broken (Some (Init net journal)) before now disk later old new h roomy same counts sure = elim h [
+  | inl k ↦ k.1
+  | inr k ↦ tells_broken init_line (output_of before) (output_of now) old new k.1.3.2 roomy same counts sure
+]
+broken (Some (Replay net journal)) before now disk later old new h roomy same counts sure = elim h.1 [
+  | inl k ↦ k.1
+  | inr k ↦
+      let t = k.1.3.1 in
+      tells_broken (replay_text k.1.0 t.0 t.1) (output_of before) (output_of now) old new t.3
+      (roomy k.1.0 k.1.1 t.0 t.1 k.1.2 t.2) same counts sure
+]
+broken (Some (Serve net journal commands)) before now disk later old new h roomy same counts sure = h
+broken (Some (Drive net seed count)) before now disk later old new h roomy same counts sure = h
+broken (Some (Migrate net next journal)) before now disk later old new h roomy same counts sure = h
+broken (Some (Live net journal commands)) before now disk later old new h roomy same counts sure = h
+broken (Some (Room net journal commands)) before now disk later old new h roomy same counts sure = h
+broken None before now disk later old new h roomy same counts sure = h
+
+-- a shelf and a sink of which no call fails
+pub calm_ends : (task : Option Task) (before now : Outside) (disk later : DiskSeen) (old new : Standing) (status : Status) →
+    Ends task before now disk later status → MayEnd task before.files disk.bytes →
+    IsRoomy task before.files disk.bytes before.given old → (status ≡ ReadFault → ⊥) → new.room ≡ old.room →
+    new.faults ≡ now.write_faults → IsSure new now.given → NoDiskFault task disk.faults later.faults →
+    (status ≡ Done) ⊎ (status ≡ Memory)
+calm_ends task before now disk later old new status h may roomy no_read same counts sure no_disk =
+    done task before now disk later status before.files disk.bytes refl refl h may no_read
+    (not_ended task before now disk later status WriteFault h
+    (λ k. broken task before now disk later old new k roomy same counts sure))
+    (not_ended task before now disk later status DiskFault h (λ k. disk_counted task before now disk later k no_disk))
+
+-- the files of the words are there
+pub there : (task : Option Task) (t : Task) (files : Option NamedFiles) (bytes : Option (List ℕ)) → task ≡ Some t →
+    MayEnd task files bytes → IsThereFor t files
+there task t files bytes is may = by_task t files bytes (subst (λ (v : Option Task). MayEnd v files bytes) is may)
+  where
+    by_task : (t : Task) (files : Option NamedFiles) (bytes : Option (List ℕ)) → MayEnd (Some t) files bytes →
+        IsThereFor t files
+    by_task (Dry net commands) (Some told) bytes may =
+        (is_there told net may.network.0 may.network.1, is_there told commands may.stream may.file)
+    by_task (Init net journal) (Some told) (Some bytes) may = is_there told net may.network.0 may.network.1
+    by_task (Replay net journal) (Some told) (Some bytes) may = is_there told net may.network.bytes may.network.told
+    by_task (Dry net commands) None bytes may = absurd may
+    by_task (Init net journal) None bytes may = absurd may
+    by_task (Init net journal) (Some told) None may = absurd may
+    by_task (Replay net journal) None bytes may = absurd may
+    by_task (Replay net journal) (Some told) None may = absurd may
+    by_task (Serve net journal commands) files bytes may = absurd may
+    by_task (Drive net seed count) files bytes may = absurd may
+    by_task (Migrate net next journal) files bytes may = absurd may
+    by_task (Live net journal commands) files bytes may = absurd may
+    by_task (Room net journal commands) files bytes may = absurd may
+
+-- ---- the disk
+
+pub may_be_left : (task : Option Task) (status : Status) (images : List ℕ → Type 0) (c : List ℕ) → images c →
+    MayBeLeft task status images c
+may_be_left (Some (Init net journal)) status images c h = made_left status images c h
+may_be_left (Some (Dry net commands)) status images c h = h
+may_be_left (Some (Replay net journal)) status images c h = h
+may_be_left (Some (Serve net journal commands)) status images c h = h
+may_be_left (Some (Drive net seed count)) status images c h = h
+may_be_left (Some (Migrate net next journal)) status images c h = h
+may_be_left (Some (Live net journal commands)) status images c h = h
+may_be_left (Some (Room net journal commands)) status images c h = h
+may_be_left None status images c h = h
+
+-- where no call of the disk is made
+pub none_made : {D : Type 0} (clock : D → ℕ) (since : D → ℕ → List ℕ → Type 0) (images : D → List ℕ → Type 0) →
+    ((d : D) (c : List ℕ) → since d (clock d) c → images d c) → (d : D) (task : Option Task) (status : Status) →
+    LeavesOnly clock since d d (MayBeLeft task status (images d))
+none_made clock since images only_now d task status =
+    started clock since d (MayBeLeft task status (images d))
+    (λ c left. may_be_left task status (images d) c (only_now d c left))

@@ -1,0 +1,135 @@
+-- The whole call: how it ends, by what the words ask for, and when it is done.
+use Rattle.std.specs.Prelude.{◌≡◌, ◌≢◌, ◌⊎◌, ℕ, ◌+◌, ◌≤◌, ⊤, false, List, [], length, Option, Some, None, IsSome, IsSomeAnd}
+use Rattle.std.specs.FinMap.{get}
+use Rattle.std.specs.Io.KnownBytes.{Keeps}
+use Rattle.eon_model.specs.Services.{State}
+use Rattle.eon_model.specs.Legal.{Setup}
+use Rattle.eon_model.specs.Events.{Event}
+use Rattle.eon_model.specs.Modes.{Task, is_long_stream}
+use Rattle.eon_model.specs.Modes.Task.{Dry, Init, Replay}
+use Rattle.eon_model.specs.TopLines.{usage_line, init_line, replay_text}
+use Rattle.eon_model.specs.Journal.{Stands}
+use Rattle.eon_model.specs.Replay.{replay}
+use Rattle.eon_model.specs.Run.{Runs}
+use Rattle.eon_model.specs.Later.{later_line}
+use Rattle.eon_outside.specs.Faults.{Standing, counted}
+use Rattle.eon_outside.specs.Reading.{NamedFiles}
+use Rattle.eon_outside.specs.WholeFile.{IsFile}
+use Rattle.plan_serve.specs.declared.status.Status.{Status}
+use Rattle.plan_serve.specs.declared.status.Status.TheVariants.{Words, NetRefused, NetLong, ReadFault, Memory, Later}
+use Rattle.plan_serve.specs.Answering.{AnswersNow}
+use Rattle.plan_serve.specs.Files.{IsAcceptedFile, IsDigestedFile}
+use Rattle.plan_serve.specs.Outside.{Outside, DiskSeen, NotRead}
+use Rattle.plan_serve.specs.Ends.{Says, DryEnds}
+use Rattle.plan_serve.specs.JournalEnds.{InitEnds, ReplayEnds, LeadsTo, MayBeMade}
+
+-- ---- how it ends
+
+-- nothing was done but to write this line
+abbrev pub SaysOnly : List ℕ → Outside → Outside → Type 0
+SaysOnly line before now = NotRead before now × Says line before now
+
+-- there was no memory before anything was done
+abbrev pub DoesNothing : Outside → Outside → Type 0
+DoesNothing before now =
+    NotRead before now × (now.write_faults ≡ before.write_faults) × Keeps before.given now.given
+
+-- How a call ends, by what the words ask for: the usage line where they ask for nothing, and `later` for a mode that is
+-- not built.
+abbrev pub Ends : Option Task → Outside → Outside → DiskSeen → DiskSeen → Status → Type 0
+Ends (Some (Dry net commands)) before now old new status = DryEnds net commands before now status
+Ends (Some (Init net journal)) before now old new status = InitEnds net journal before now old new status
+Ends (Some (Replay net journal)) before now old new status = ReplayEnds net journal before now old new status
+Ends None before now old new Words = SaysOnly usage_line before now
+Ends None before now old new Memory = DoesNothing before now
+Ends None before now old new _ = ⊥
+Ends (Some _) before now old new Later = SaysOnly later_line before now
+Ends (Some _) before now old new Memory = DoesNothing before now
+Ends (Some _) before now old new _ = ⊥
+
+-- `Words` comes where the words ask for nothing, and `Later` where the mode is not built; want of memory is free
+abbrev pub AskedAt : Option Task → Status → Type 0
+AskedAt None status = (status ≡ Words) ⊎ (status ≡ Memory)
+AskedAt (Some (Dry net commands)) status = (status ≢ Words) × (status ≢ Later)
+AskedAt (Some (Init net journal)) status = (status ≢ Words) × (status ≢ Later)
+AskedAt (Some (Replay net journal)) status = (status ≢ Words) × (status ≢ Later)
+AskedAt (Some _) status = (status ≡ Later) ⊎ (status ≡ Memory)
+
+-- ---- the disk
+
+-- the network was not read, or is refused
+abbrev pub IsEarly : Status → Type 0
+IsEarly (NetRefused number why) = ⊤
+IsEarly NetLong = ⊤
+IsEarly ReadFault = ⊤
+IsEarly _ = ⊥
+
+-- no call of the disk is made: the mode has no journal, or it comes no further than the network
+abbrev pub NeedsNoDisk : Option Task → Status → Type 0
+NeedsNoDisk (Some (Init net journal)) status = IsEarly status
+NeedsNoDisk (Some (Replay net journal)) status = IsEarly status
+NeedsNoDisk task status = ⊤
+
+-- What a crash may leave at any moment of the call, by what it might have left at the start: the same, but for a journal that
+-- is made.
+abbrev pub MayBeLeft : Option Task → Status → (List ℕ → Type 0) → List ℕ → Type 0
+MayBeLeft (Some (Init net journal)) status images = MayBeMade status images
+MayBeLeft task status images = images
+
+-- no call of the disk failed, where the mode has a journal
+abbrev pub NoDiskFault : Option Task → ℕ → ℕ → Type 0
+NoDiskFault (Some (Init net journal)) before now = now ≢ counted before
+NoDiskFault (Some (Replay net journal)) before now = now ≢ counted before
+NoDiskFault task before now = ⊤
+
+-- ---- when nothing is in the way
+
+-- The files are told and there, the network is accepted, and the stream is not too long.
+pub record MayServe (told : NamedFiles) (net commands : List ℕ) : Type 0 where
+  pub setup : Setup
+  pub network : IsAcceptedFile (Some told) net setup
+  pub stream : List ℕ
+  pub file : get told commands ≡ Some stream
+  pub short : is_long_stream stream ≡ false
+
+-- The network is accepted, and the disk has no bytes.
+pub record MayMake (told : NamedFiles) (net bytes : List ℕ) : Type 0 where
+  pub setup : Setup
+  pub network : IsAcceptedFile (Some told) net setup
+  pub empty : bytes ≡ []
+
+-- The network is accepted, and the journal on the disk is bound to it and stands for events that replay.
+pub record MayTell (told : NamedFiles) (net bytes : List ℕ) : Type 0 where
+  pub setup : Setup
+  pub digest : List ℕ
+  pub network : IsDigestedFile (Some told) net setup digest
+  pub events : List Event
+  pub place : ℕ
+  pub stands : Stands bytes digest setup.journal events place
+  pub replays : IsSome (replay setup events)
+
+-- the words ask for a mode that is built, and its files and its disk allow it
+abbrev pub MayEnd : Option Task → Option NamedFiles → Option (List ℕ) → Type 0
+MayEnd (Some (Dry net commands)) (Some told) bytes = MayServe told net commands
+MayEnd (Some (Init net journal)) (Some told) (Some bytes) = MayMake told net bytes
+MayEnd (Some (Replay net journal)) (Some told) (Some bytes) = MayTell told net bytes
+MayEnd task files bytes = ⊥
+
+-- the sink is sure of room for so many bytes more
+abbrev pub HasRoom : Option (List ℕ) → Standing → ℕ → Type 0
+HasRoom given standing more =
+    IsSomeAnd given (λ bytes. IsSomeAnd standing.room (λ room. length bytes + more ≤ room))
+
+-- the sink is sure of room for all that may be written over these files and this disk, behind what it was given
+abbrev pub IsRoomy : Option Task → Option NamedFiles → Option (List ℕ) → Option (List ℕ) → Standing → Type 0
+IsRoomy (Some (Dry net commands)) files disk given standing =
+    IsSomeAnd given (λ bytes. (setup : Setup) (stream missed output : List ℕ) (changes : List Event)
+    → IsAcceptedFile files net setup → IsFile files commands stream
+    → Runs AnswersNow setup [] None stream missed output changes
+    → IsSomeAnd standing.room (λ room. length bytes + length output ≤ room))
+IsRoomy (Some (Init net journal)) files disk given standing = HasRoom given standing (length init_line)
+IsRoomy (Some (Replay net journal)) files disk given standing =
+    (setup : Setup) (digest : List ℕ) (events : List Event) (state : State)
+    → IsDigestedFile files net setup digest → LeadsTo setup digest disk events state
+    → HasRoom given standing (length (replay_text setup events state))
+IsRoomy task files disk given standing = ⊤
