@@ -128,7 +128,7 @@ fn file_is_read<D: Deck>(deck: &mut D) -> Result<bool, DiskFailed>
 }
 
 /// Tries each row.
-pub fn report_all(rt: &HostRuntime) -> Result<(), Stop> {
+pub(crate) fn report_all(rt: &HostRuntime) -> Result<(), Stop> {
     let alloc = rt.alloc();
     let kept = is_left(written_disk(alloc, 200, None)?, Fill::Kept, b"XYcd");
     report(rt, "a crash keeps what was written", kept)?;

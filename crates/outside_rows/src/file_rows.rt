@@ -43,7 +43,7 @@ fn held_stays(rt: &HostRuntime) -> Result<bool, AllocError> {
 }
 
 /// Tries each row.
-pub fn report_all(rt: &HostRuntime) -> Result<(), Stop> {
+pub(crate) fn report_all(rt: &HostRuntime) -> Result<(), Stop> {
     let mut shelf = FileShelf::new(rt);
     let mut room = Vec::new(rt.alloc());
     let whole = file_is_read(&mut shelf, &mut room);

@@ -46,7 +46,7 @@ fn front_is_left(alloc: Global, failing: u64, want: usize) -> Result<bool, Alloc
 }
 
 /// Tries each row.
-pub fn report_all(rt: &HostRuntime) -> Result<(), Stop> {
+pub(crate) fn report_all(rt: &HostRuntime) -> Result<(), Stop> {
     let alloc = rt.alloc();
     report(rt, "a word of each kind", lines_are_added(alloc)?)?;
     report(rt, "the first call fails", front_is_left(alloc, 1, 0)?)?;

@@ -12,7 +12,7 @@ use std::process::ExitCode;
 
 /// Why the rows were not all tried.
 #[derive(Clone, Copy, Debug, PartialEq, Eq)]
-pub enum Stop {
+pub(crate) enum Stop {
     /// There was no memory.
     Memory,
     /// What came out could not be printed.
@@ -32,7 +32,7 @@ impl From<io::Error> for Stop {
 }
 
 /// Prints whether the row of this name holds.
-pub fn report(rt: &HostRuntime, name: &str, holds: bool) -> Result<(), Stop> {
+pub(crate) fn report(rt: &HostRuntime, name: &str, holds: bool) -> Result<(), Stop> {
     let word = if holds { "ok" } else { "FAILED" };
     println!(rt; "{word} {name}")?;
     Ok(())
