@@ -20,7 +20,7 @@ use Rattle.reply_text.specs.Tellable.{can_tell}
 use Rattle.plan_core.specs.declared.decision.Decision.TheVariants.{Say}
 use Rattle.plan_core.specs.declared.proposal.Prepared.TheVariants as prepared
 use Rattle.plan_core.specs.declared.proposal.Proposal.{Proposal}
-use Rattle.plan_core.specs.Built.{is_compact}
+use Rattle.plan_core.specs.Compact.{is_compact}
 use Rattle.plan_core.specs.Told.{outcome_told}
 use Rattle.plan_core.specs.Waiting.{IsPrepared}
 use Rattle.plan_core.specs.Proposed.{IsProposed}

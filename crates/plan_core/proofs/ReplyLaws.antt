@@ -1,4 +1,4 @@
--- What a command that is built says can be told: of the state, or of the one that follows the change.
+-- What a command says can be told: of the state, or of the one that follows the change.
 use Rattle.std.proofs.Common.{◌≡◌, refl, sym, ◌∙◌, ap, subst, ℕ, ℤ, Bool, true, false, cond, not, [], ◌∷◌, ◌++◌, map, Option, Some, None}
 use Rattle.std.specs.Prelude.{is_some}
 use Rattle.std.specs.Option.{option_map, option_or, option_and_then}
@@ -23,7 +23,7 @@ use Rattle.eon_model.proofs.ChangeLaws.{otherwise-Change, tried}
 use Rattle.reply_text.specs.Tellable.{can_tell}
 use Rattle.plan_core.specs.declared.decision.Decision.{Decision}
 use Rattle.plan_core.specs.declared.decision.Decision.TheVariants as decision
-use Rattle.plan_core.specs.Built.{is_compact}
+use Rattle.plan_core.specs.Compact.{is_compact}
 use Rattle.plan_core.specs.Told.{outcome_told, CanBeTold}
 use Rattle.plan_core.proofs.ShownLaws.{shown-over}
 use Rattle.plan_core.proofs.DrillSteps.{hits-told}

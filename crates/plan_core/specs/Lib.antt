@@ -1,4 +1,4 @@
-pub mod Built
+pub mod Compact
 pub mod Told
 pub mod Waiting
 pub mod Seen

@@ -8,7 +8,7 @@ ghost use Rattle.eon_model.specs.Step as step;
 ghost use Rattle.eon_model.specs.Answers.{Gives, said, takes_memory};
 ghost use Rattle.command_text.specs.Told.{told};
 ghost use Rattle.reply_text.specs.Replied.{reply_told};
-ghost use Rattle.plan_core.specs.Built.{is_compact};
+ghost use Rattle.plan_core.specs.Compact.{is_compact};
 ghost use Rattle.plan_core.specs.Proposed.{IsProposed};
 
 use crate::dispatch::proposal_for;

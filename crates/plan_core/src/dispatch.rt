@@ -10,7 +10,7 @@ ghost use Rattle.eon_model.specs.Replies.{Reply as said};
 ghost use Rattle.eon_model.specs.Answers.{takes_memory};
 ghost use Rattle.command_text.specs.Told.{told};
 ghost use Rattle.reply_text.specs.Replied.{reply_told};
-ghost use Rattle.plan_core.specs.Built.{is_compact};
+ghost use Rattle.plan_core.specs.Compact.{is_compact};
 ghost use Rattle.plan_core.specs.Told.{outcome_told};
 ghost use Rattle.plan_core.specs.Waiting.{IsPrepared};
 

@@ -6,7 +6,6 @@
 mod admit;
 mod asked_paths;
 mod awaited;
-pub mod built;
 mod compacting;
 pub mod decision;
 mod demand;
@@ -26,7 +25,6 @@ mod refusal;
 mod routes;
 mod told_leg;
 
-pub use built::is_built;
 pub use decision::Decision;
 pub use follow::CannotFollow;
 pub use journal_record::Event;

@@ -9,7 +9,6 @@ ghost use Rattle.eon_model.specs.CommandText.{is_command};
 ghost use Rattle.eon_model.specs.Step.{outcome_of};
 ghost use Rattle.eon_model.specs.Answers.{Gives, takes_memory};
 ghost use Rattle.command_text.specs.Told.{told};
-ghost use Rattle.plan_core.specs.Built.{is_built};
 ghost use Rattle.journal_record.specs.Told.{event_told};
 ghost use Rattle.plan_core.specs.Told.{answer_of, event_of, CanBeTold};
 ghost use Rattle.plan_core.specs.Waiting.{CanBeHeld};
@@ -105,7 +104,6 @@ impl Core {
     /// before. Want of memory leaves all as before, the change that waits too.
     pub fn step(&mut self, c: &Command) -> Result<Decision, AllocError>
         requires in_range { IsTrue (is_command (told c.now)) }
-        requires built { IsTrue (is_built (told c.now)) }
         ensures setup { self.new.setup ≡ self.old.setup }
         ensures state { self.new.state ≡ self.old.state }
         ensures answer { IfOk result (λ d. Gives self.old.setup self.old.state (outcome_of self.old.setup self.old.state (told c.now)) (answer_of d)) }

@@ -7,26 +7,21 @@ use Rattle.std.proofs.lemmas.List.{append-nil}
 use Rattle.eon_model.specs.Services.{State}
 use Rattle.eon_model.specs.Legal.{Setup, Legal}
 use Rattle.eon_model.specs.NetworkText.{is_setup}
-use Rattle.eon_model.specs.Answers.{Answer, state_after, takes_memory}
+use Rattle.eon_model.specs.Answers.{Answer, Answers, state_after, takes_memory}
 use Rattle.eon_model.specs.LineStream.{is_quit, lines_of, AnswersEach, after_each}
-use Rattle.eon_model.specs.Run.{Answering, Runs, Situation, situation, planner, answer_text, answers_text, changes_of, state_at_end, MissesOnly}
-use Rattle.eon_model.specs.Later.{AnswersSoFar}
-use Rattle.eon_model.proofs.AnswersWell.{so_far-well}
+use Rattle.eon_model.specs.Run.{Runs, Situation, situation, planner, answer_text, answers_text, changes_of, state_at_end, MissesOnly}
+use Rattle.eon_model.proofs.AnswersWell.{Answers-well}
 use Rattle.eon_model.proofs.RunLaws.{stays, states-sound, beginnings-early, answers_text-append}
 use Rattle.eon_model.proofs.StreamRuns.{each-goes_on}
 use Rattle.eon_model.proofs.MissedLines.{misses-fewer}
-use Rattle.plan_core.specs.Built.{is_built}
 use Rattle.plan_serve.specs.Answering.{HasAnswer, TakesMemory}
 use Rattle.plan_serve.specs.Session.{Answered, AreAnswered}
 use Rattle.plan_serve.specs.Ends.{Serves, Begins, GoesOnBehind}
 use Rattle.plan_serve.proofs.StreamLaws.{answers-then, answers-agree, with_mark, mark-below, mark-at, mark-behind, misses-agree, misses-none}
 
-abbrev so_far : Answering
-so_far = AnswersSoFar is_built
-
 -- how the planner stands after some answers
 after-answers : (setup : Setup) (state : State) (answers : List Answer) →
-    after_each (planner so_far setup) (situation state None) answers ≡ situation (state_at_end setup state answers) None
+    after_each (planner Answers setup) (situation state None) answers ≡ situation (state_at_end setup state answers) None
 after-answers setup state [] = refl
 after-answers setup state (a ∷ later) = after-answers setup (state_after setup.network state a.event) later
 
@@ -60,25 +55,25 @@ module _ (setup : Setup) (start here : State) (lines : List (List ℕ)) (text li
   abbrev nothing : List Answer
   nothing = []
 
-  stands : after_each (planner so_far setup) (situation start None) h.answers ≡ situation here None
+  stands : after_each (planner Answers setup) (situation start None) h.answers ≡ situation here None
   stands = after-answers setup start h.answers ∙ ap (λ (v : State). situation v None) (sym h.state)
 
   last : (more : List (List ℕ)) (s : Situation) (quit : Bool) → MatchBool quit ⊤ (more ≡ []) →
-      MatchBool quit (nothing ≡ []) (AnswersEach (planner so_far setup) missed (number + 1) s more nothing)
+      MatchBool quit (nothing ≡ []) (AnswersEach (planner Answers setup) missed (number + 1) s more nothing)
   last more s true e = refl
   last more s false e =
-      subst (λ (v : List (List ℕ)). AnswersEach (planner so_far setup) missed (number + 1) s v nothing) (sym e) tt
+      subst (λ (v : List (List ℕ)). AnswersEach (planner Answers setup) missed (number + 1) s v nothing) (sym e) tt
 
   -- behind the answers so far the line is answered so; where it is `quit`, whatever comes behind it
   next_line : (more : List (List ℕ)) → MatchBool (is_quit line) ⊤ (more ≡ []) →
       Answered setup missed start (lines ++ line ∷ more) (h.answers ++ a ∷ [])
   next_line more end =
-      answers-then (planner so_far setup) missed 1 (situation start None) lines (line ∷ more) h.answers (a ∷ []) none_quits
-      (answers-agree (planner so_far setup) h.missed missed 1 (situation start None) lines h.answers
+      answers-then (planner Answers setup) missed 1 (situation start None) lines (line ∷ more) h.answers (a ∷ []) none_quits
+      (answers-agree (planner Answers setup) h.missed missed 1 (situation start None) lines h.answers
       (λ n l. mark-below mark number n h.missed l) h.answered)
-      (subst (λ (s : Situation). AnswersEach (planner so_far setup) missed number s (line ∷ more) (a ∷ nothing))
+      (subst (λ (s : Situation). AnswersEach (planner Answers setup) missed number s (line ∷ more) (a ∷ nothing))
       (sym stands) (
-        subst (λ (b : Bool). so_far setup here None line b a) (mark-at mark number h.missed h.behind) has.is,
+        subst (λ (b : Bool). Answers setup here None line b a) (mark-at mark number h.missed h.behind) has.is,
         last more (situation (state_after setup.network here a.event) None) (is_quit line) end,
       ))
 
@@ -123,7 +118,7 @@ module _ (setup : Setup) (start here : State) (ok : is_setup setup ≡ true) (le
   -- all lines are answered
   pub serves_lines : lines_of bytes ≡ lines → Appends before now text → Serves setup start bytes before now
   serves_lines is given =
-      let run : Runs so_far setup start None bytes h.missed text (changes_of h.answers) = record {
+      let run : Runs Answers setup start None bytes h.missed text (changes_of h.answers) = record {
         answers = h.answers;
         answered = subst (λ (v : List (List ℕ)). Answered setup h.missed start v h.answers) (sym is) h.answered;
         told = h.told;
@@ -134,7 +129,7 @@ module _ (setup : Setup) (start here : State) (ok : is_setup setup ≡ true) (le
         changes = changes_of h.answers;
         run = run;
         only = subst (λ (v : List (List ℕ)). MissesOnly takes_memory h.missed 1 v) (sym is) h.only;
-        sound = (states-sound so_far (so_far-well is_built) setup start None bytes h.missed ok legal).0 text
+        sound = (states-sound Answers Answers-well setup start None bytes h.missed ok legal).0 text
             (changes_of h.answers) run;
         given = given;
       }
@@ -149,7 +144,7 @@ module _ (setup : Setup) (start here : State) (ok : is_setup setup ≡ true) (le
       Answered setup h.missed start (lines ++ more) h.answers → Appends before now text →
       Serves setup start bytes before now
   serves_quit more is whole given =
-      let run : Runs so_far setup start None bytes h.missed text (changes_of h.answers) = record {
+      let run : Runs Answers setup start None bytes h.missed text (changes_of h.answers) = record {
         answers = h.answers;
         answered = subst (λ (v : List (List ℕ)). Answered setup h.missed start v h.answers) (sym is) whole;
         told = h.told;
@@ -160,7 +155,7 @@ module _ (setup : Setup) (start here : State) (ok : is_setup setup ≡ true) (le
         changes = changes_of h.answers;
         run = run;
         only = subst (λ (v : List (List ℕ)). MissesOnly takes_memory h.missed 1 v) (sym is) (only_more more);
-        sound = (states-sound so_far (so_far-well is_built) setup start None bytes h.missed ok legal).0 text
+        sound = (states-sound Answers Answers-well setup start None bytes h.missed ok legal).0 text
             (changes_of h.answers) run;
         given = given;
       }
@@ -169,12 +164,12 @@ module _ (setup : Setup) (start here : State) (ok : is_setup setup ≡ true) (le
   record GoesOn : Type 0 where
     answers : List Answer
     rest : List ℕ
-    run : Runs so_far setup start None bytes h.missed (text ++ rest) (changes_of answers)
+    run : Runs Answers setup start None bytes h.missed (text ++ rest) (changes_of answers)
 
   goes_on : (more : List (List ℕ)) → lines_of bytes ≡ lines ++ more → GoesOn
   goes_on more is =
-      let later = each-goes_on (planner so_far setup) (λ s. Legal setup s.state)
-      (stays so_far (so_far-well is_built) setup ok) h.missed 1 (situation start None) lines more h.answers legal h.behind
+      let later = each-goes_on (planner Answers setup) (λ s. Legal setup s.state)
+      (stays Answers Answers-well setup ok) h.missed 1 (situation start None) lines more h.answers legal h.behind
       h.answered in
       let rest = answers_text setup (state_at_end setup start h.answers) later.0 in record {
         answers = h.answers ++ later.0;
@@ -194,7 +189,7 @@ module _ (setup : Setup) (start here : State) (ok : is_setup setup ≡ true) (le
       let r = goes_on more is in
       let part : front ++ (left ++ r.rest) ≡ text ++ r.rest =
       sym (append_assoc front left r.rest) ∙ ap (λ (v : List ℕ). v ++ r.rest) cut in
-      let early = beginnings-early so_far (so_far-well is_built) setup start None bytes h.missed (text ++ r.rest) front
+      let early = beginnings-early Answers Answers-well setup start None bytes h.missed (text ++ r.rest) front
       (changes_of r.answers) ok legal r.run (left ++ r.rest, part) in (
         record {
           missed = early.0;
@@ -202,7 +197,7 @@ module _ (setup : Setup) (start here : State) (ok : is_setup setup ≡ true) (le
           run = early.1.1;
           only = misses-fewer takes_memory h.missed early.0 1 (lines_of bytes) early.1.0
               (subst (λ (v : List (List ℕ)). MissesOnly takes_memory h.missed 1 v) (sym is) (only_more more));
-          sound = (states-sound so_far (so_far-well is_built) setup start None bytes early.0 ok legal).1 front early.1.1;
+          sound = (states-sound Answers Answers-well setup start None bytes early.0 ok legal).1 front early.1.1;
           given = given;
         },
         refl,
@@ -217,7 +212,7 @@ module _ (setup : Setup) (start here : State) (ok : is_setup setup ≡ true) (le
         rest = left ++ r.rest;
         changes = changes_of r.answers;
         more = λ none. some (first_empty left r.rest none);
-        run = subst (λ (v : List ℕ). Runs so_far setup start None bytes h.missed v (changes_of r.answers))
+        run = subst (λ (v : List ℕ). Runs Answers setup start None bytes h.missed v (changes_of r.answers))
             (sym (sym (append_assoc front left r.rest) ∙ ap (λ (v : List ℕ). v ++ r.rest) cut)) r.run;
       }
     where

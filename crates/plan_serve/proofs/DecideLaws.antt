@@ -14,8 +14,6 @@ use Rattle.eon_model.specs.Step.{outcome_of}
 use Rattle.eon_model.specs.Answers.{Gives, said, state_after, takes_memory}
 use Rattle.eon_model.specs.OneLine as one
 use Rattle.eon_model.specs.Run.{answer_text}
-use Rattle.eon_model.specs.Later.{Now, Untold}
-use Rattle.eon_model.proofs.CommandTextLaws.{line-unique}
 use Rattle.eon_outside.specs.Writing.{AppendsPart}
 use Rattle.reply_text.specs.Replied.{reply_told}
 use Rattle.reply_text.specs.Tellable.{can_tell}
@@ -25,37 +23,20 @@ use Rattle.journal_record.specs.declared.event.Event.{Event}
 use Rattle.journal_record.specs.Told.{event_told}
 use Rattle.plan_core.specs.declared.decision.Decision.{Decision}
 use Rattle.plan_core.specs.declared.decision.Decision.TheVariants.{Say, Change}
-use Rattle.plan_core.specs.Built.{is_built}
 use Rattle.plan_core.specs.Told.{answer_of, CanBeTold}
 use Rattle.plan_serve.specs.declared.answering.Flow.{Flow}
 use Rattle.plan_serve.specs.Answering.{Decides, DecidesCommand, GoesOn, AnswersLine}
 
-built_here : (line : List ℕ) (c : Command) → IsLineOf line c → is_built c ≡ true →
-    (d : Command) → length line ≤ 4096 → IsLineOf line d → IsTrue (is_built d)
-built_here line c of built d short l = subst (λ (v : Command). IsTrue (is_built v)) (line-unique line c d of l) built
-
--- a command that is not built
-pub later_decides : (setup : Setup) (state : State) (c : Command) → is_built c ≡ false →
-    DecidesCommand setup state state c reply.Later
-later_decides setup state c built = λ line short of. record {
-  missed = false;
-  answer = said model.Reply.Later;
-  has = record { is = Untold c refl short of built refl; only = tt };
-  state = refl;
-  is = refl;
-  can_tell = refl;
-}
-
 -- a reply alone
 pub say_decides : (setup : Setup) (old new : State) (c : Command) (d : Decision) (r : Reply) → d ≡ Say r →
-    is_built c ≡ true → new ≡ old → Gives setup old (outcome_of setup old c) (answer_of d) → CanBeTold setup old d →
+    new ≡ old → Gives setup old (outcome_of setup old c) (answer_of d) → CanBeTold setup old d →
     DecidesCommand setup old new c r
-say_decides setup old new c d r is built same gives tellable = λ line short of.
+say_decides setup old new c d r is same gives tellable = λ line short of.
     let given = subst (λ (v : Decision). Gives setup old (outcome_of setup old c) (answer_of v)) is gives in
     let told = subst (λ (v : Decision). CanBeTold setup old v) is tellable in record {
       missed = false;
       answer = answer_of (Say r);
-      has = record { is = Now (built_here line c of built) (one.Answered c refl short of given); only = tt };
+      has = record { is = one.Answered c refl short of given; only = tt };
       state = same;
       is = refl;
       can_tell = subst (λ (v : State). IsTrue (can_tell setup v (reply_told r))) (sym same) told;
@@ -63,11 +44,11 @@ say_decides setup old new c d r is built same gives tellable = λ line short of.
 
 -- a change and its reply
 pub change_decides : (setup here : Setup) (old mid new : State) (c : Command) (d : Decision) (e : Event)
-    (r : Reply) → d ≡ Change e r → is_built c ≡ true → here ≡ setup → mid ≡ old →
+    (r : Reply) → d ≡ Change e r → here ≡ setup → mid ≡ old →
     new ≡ changes.apply here.network mid (event_told e) →
     Gives setup old (outcome_of setup old c) (answer_of d) → CanBeTold setup old d →
     DecidesCommand setup old new c r
-change_decides setup here old mid new c d e r is built same stays changed gives tellable = λ line short of.
+change_decides setup here old mid new c d e r is same stays changed gives tellable = λ line short of.
     let given = subst (λ (v : Decision). Gives setup old (outcome_of setup old c) (answer_of v)) is gives in
     let told = subst (λ (v : Decision). CanBeTold setup old v) is tellable in
     let after : new ≡ changes.apply setup.network old (event_told e) =
@@ -75,7 +56,7 @@ change_decides setup here old mid new c d e r is built same stays changed gives 
     ∙ ap (λ (v : State). changes.apply setup.network v (event_told e)) stays in record {
       missed = false;
       answer = answer_of (Change e r);
-      has = record { is = Now (built_here line c of built) (one.Answered c refl short of given); only = tt };
+      has = record { is = one.Answered c refl short of given; only = tt };
       state = after;
       is = refl;
       can_tell = subst (λ (v : State). IsTrue (can_tell setup v (reply_told r))) (sym after) told;
@@ -85,13 +66,13 @@ not_quit : (c : Command) → (takes_memory c ≡ false → ⊥) → c ≢ Comman
 not_quit c free e = free (ap takes_memory e)
 
 -- there was no memory, and the command takes some
-pub memory_decides : (setup : Setup) (old new : State) (c : Command) → is_built c ≡ true → new ≡ old →
+pub memory_decides : (setup : Setup) (old new : State) (c : Command) → new ≡ old →
     (takes_memory c ≡ false → ⊥) → DecidesCommand setup old new c reply.Memory
-memory_decides setup old new c built same free = λ line short of. record {
+memory_decides setup old new c same free = λ line short of. record {
   missed = true;
   answer = said model.Reply.Memory;
   has = record {
-    is = Now (built_here line c of built) (one.Missed c refl short of (not_quit c free) refl);
+    is = one.Missed c refl short of (not_quit c free) refl;
     only = (c, of, true_from_ne_false (takes_memory c) free);
   };
   state = same;
@@ -106,7 +87,7 @@ long_decides setup state line r long is = subst (λ (v : Reply). Decides setup s
     (record {
       missed = false;
       answer = said (model.Reply.Line 4096);
-      has = record { is = Now (λ c short l. absurd (omega arith)) (one.Long refl long refl); only = tt };
+      has = record { is = one.Long refl long refl; only = tt };
       state = refl;
       is = refl;
       can_tell = refl;
@@ -119,7 +100,7 @@ fault_decides setup state line at short none place = record {
   missed = false;
   answer = said (model.Reply.Line at);
   has = record {
-    is = Now (λ c few l. absurd (none (c, l))) (one.Fault at refl short none place refl);
+    is = one.Fault at refl short none place refl;
     only = tt;
   };
   state = refl;

@@ -9,8 +9,6 @@ use Rattle.eon_model.specs.Legal.{Setup}
 use Rattle.eon_model.specs.Answers.{Answer, Answers}
 use Rattle.eon_model.specs.OneLine as one
 use Rattle.eon_model.specs.Run.{answer_text}
-use Rattle.eon_model.specs.Later.{AnswersSoFar, Now, Untold}
-use Rattle.plan_core.specs.Built.{is_built}
 use Rattle.plan_serve.specs.declared.answering.Flow.{Flow}
 use Rattle.plan_serve.specs.declared.answering.Flow.TheVariants.{On, Ended}
 use Rattle.plan_serve.specs.Answering.{TakesMemory, HasAnswer, GoesOn, AnswersLine}
@@ -29,21 +27,14 @@ answers_front setup state line m a more (one.Missed c x short l q e) =
 answers_front setup state line m a more (one.Answered c x short l s) =
     let k = length-take-le most_kept line (omega arith) in absurd (omega arith)
 
-long_front : (setup : Setup) (state : State) (line : List ℕ) (m : Bool) (a : Answer) → (length line ≤ most_kept → ⊥) →
-    AnswersSoFar is_built setup state None (take most_kept line) m a → AnswersSoFar is_built setup state None line m a
-long_front setup state line m a more (Now built h) =
-    Now (λ c short l. absurd (omega arith)) (answers_front setup state line m a more h)
-long_front setup state line m a more (Untold c x short l built is) =
-    let k = length-take-le most_kept line (omega arith) in absurd (omega arith)
-
 -- a line of more bytes than a command has is not missed
 only_front : (setup : Setup) (state : State) (line : List ℕ) (m : Bool) (a : Answer) → (length line ≤ most_kept → ⊥) →
-    AnswersSoFar is_built setup state None line m a → MatchBool m (TakesMemory line) ⊤
+    Answers setup state None line m a → MatchBool m (TakesMemory line) ⊤
 only_front setup state line false a more h = tt
-only_front setup state line true a more (Now built (one.Long x long e)) = absurd (false≢true (sym x))
-only_front setup state line true a more (Now built (one.Fault p x short n f e)) = absurd (false≢true (sym x))
-only_front setup state line true a more (Now built (one.Missed c x short l q e)) = absurd (omega arith)
-only_front setup state line true a more (Now built (one.Answered c x short l s)) = absurd (false≢true (sym x))
+only_front setup state line true a more (one.Long x long e) = absurd (false≢true (sym x))
+only_front setup state line true a more (one.Fault p x short n f e) = absurd (false≢true (sym x))
+only_front setup state line true a more (one.Missed c x short l q e) = absurd (omega arith)
+only_front setup state line true a more (one.Answered c x short l s) = absurd (false≢true (sym x))
 only_front setup state line true a more (Untold c x short l built is) = absurd (false≢true (sym x))
 
 -- a line of more bytes than a command has is told by so many of its bytes
@@ -54,7 +45,7 @@ has-front setup state line m a h =
     (λ (b : Bool). nat_le (length line) most_kept ≡ b → HasAnswer setup state line m a) [
       | true ↦ λ e. subst (λ (v : List ℕ). HasAnswer setup state v m a) (take_all most_kept line (leb-true _ _ e)) h
       | false ↦ λ e. let more : (length line ≤ most_kept → ⊥) = (λ short. both_ways _ e (le-leb _ _ short)) in
-          let whole = long_front setup state line m a more h.is in
+          let whole = answers_front setup state line m a more h.is in
           record { is = whole; only = only_front setup state line m a more whole }
     ] refl
 

@@ -5,21 +5,15 @@ use Rattle.eon_model.specs.Services.{State}
 use Rattle.eon_model.specs.Legal.{Setup}
 use Rattle.eon_model.specs.Commands.{Command}
 use Rattle.eon_model.specs.CommandText.{IsLineOf}
-use Rattle.eon_model.specs.Answers.{Answer, state_after, takes_memory}
+use Rattle.eon_model.specs.Answers.{Answer, Answers, state_after, takes_memory}
 use Rattle.eon_model.specs.LineStream.{is_quit}
-use Rattle.eon_model.specs.Run.{Answering, answer_text}
-use Rattle.eon_model.specs.Later.{AnswersSoFar}
+use Rattle.eon_model.specs.Run.{answer_text}
 use Rattle.eon_outside.specs.Writing.{AppendsPart}
 use Rattle.reply_text.specs.Replied.{reply_told}
 use Rattle.reply_text.specs.Tellable.{can_tell}
 use Rattle.reply_text.specs.declared.reply.Reply.{Reply}
-use Rattle.plan_core.specs.Built.{is_built}
 use Rattle.plan_serve.specs.declared.answering.Flow.{Flow}
 use Rattle.plan_serve.specs.declared.answering.Flow.TheVariants.{On, Ended}
-
--- What is answered to a line. A command that is not built has the reply `later`.
-abbrev pub AnswersNow : Answering
-AnswersNow = AnswersSoFar is_built
 
 -- the line is that of a command that takes memory
 abbrev pub TakesMemory : List ℕ → Type 0
@@ -27,7 +21,7 @@ TakesMemory line = (c : Command) × IsLineOf line c × IsTrue (takes_memory c)
 
 -- The line has this answer. A missed line is one for which there was no memory: its command takes some.
 pub record HasAnswer (setup : Setup) (state : State) (line : List ℕ) (missed : Bool) (a : Answer) : Type 0 where
-  pub is : AnswersNow setup state None line missed a
+  pub is : Answers setup state None line missed a
   pub only : MatchBool missed (TakesMemory line) ⊤
 
 -- What is decided on a line: a reply, which can be told of the state after it.

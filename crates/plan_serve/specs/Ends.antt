@@ -18,7 +18,7 @@ use Rattle.plan_serve.specs.declared.status.Status.{Status}
 use Rattle.plan_serve.specs.declared.status.Status.TheVariants.{Done, NetRefused, NetLong, ReadFault, Memory, WriteFault, InputLong}
 use Rattle.plan_serve.specs.Files.{IsLeft, IsAcceptedFile, IsRefusedFile, IsLongFile}
 use Rattle.plan_serve.specs.Lines.{whole_lines, quits_within, most_read}
-use Rattle.plan_serve.specs.Answering.{AnswersNow}
+use Rattle.eon_model.specs.Answers.{Answers}
 use Rattle.plan_serve.specs.Outside.{Outside, NoFault}
 
 -- ---- runs
@@ -29,7 +29,7 @@ pub record Serves (setup : Setup) (start : State) (bytes : List ℕ) (before now
   pub missed : List ℕ
   pub output : List ℕ
   pub changes : List Event
-  pub run : Runs AnswersNow setup start None bytes missed output changes
+  pub run : Runs Answers setup start None bytes missed output changes
   pub only : MissesOnly takes_memory missed 1 (lines_of bytes)
   pub sound : All (IsLegalAndSound setup) (states_of setup start run.answers)
   pub given : Appends before now output
@@ -38,7 +38,7 @@ pub record Serves (setup : Setup) (start : State) (bytes : List ℕ) (before now
 pub record Begins (setup : Setup) (start : State) (bytes : List ℕ) (before now : Option (List ℕ)) : Type 0 where
   pub missed : List ℕ
   pub part : List ℕ
-  pub run : BeginsRun AnswersNow setup start None bytes missed part
+  pub run : BeginsRun Answers setup start None bytes missed part
   pub only : MissesOnly takes_memory missed 1 (lines_of bytes)
   pub sound : All (IsLegalAndSound setup) (states_of setup start run.answers)
   pub given : Appends before now part
@@ -49,7 +49,7 @@ pub record GoesOnBehind (setup : Setup) (start : State) (bytes part : List ℕ) 
   pub rest : List ℕ
   pub changes : List Event
   pub more : rest ≢ []
-  pub run : Runs AnswersNow setup start None bytes missed (part ++ rest) changes
+  pub run : Runs Answers setup start None bytes missed (part ++ rest) changes
 
 -- ---- streams
 

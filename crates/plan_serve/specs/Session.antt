@@ -11,12 +11,12 @@ use Rattle.plan_serve.specs.declared.status.Status.{Status}
 use Rattle.plan_serve.specs.declared.status.Status.TheVariants.{Done, WriteFault}
 use Rattle.plan_serve.specs.declared.answering.Flow.{Flow}
 use Rattle.plan_serve.specs.declared.answering.Flow.TheVariants.{On, Ended}
-use Rattle.plan_serve.specs.Answering.{AnswersNow}
+use Rattle.eon_model.specs.Answers.{Answers}
 use Rattle.plan_serve.specs.Lines.{has_no_end, most_kept, Splits}
 
 -- the answers to these lines, from the first of a stream on
 abbrev pub Answered : Setup → List ℕ → State → List (List ℕ) → List Answer → Type 0
-Answered setup missed start lines answers = AnswersLines AnswersNow setup missed 1 start None lines answers
+Answered setup missed start lines answers = AnswersLines Answers setup missed 1 start None lines answers
 
 -- These lines are answered one after the other, from a state on. The answers come to this state and this text. Each
 -- missed line is that of a command that takes memory, and none is missed behind them.

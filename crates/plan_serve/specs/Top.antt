@@ -17,7 +17,7 @@ use Rattle.eon_outside.specs.Reading.{NamedFiles}
 use Rattle.eon_outside.specs.WholeFile.{IsFile}
 use Rattle.plan_serve.specs.declared.status.Status.{Status}
 use Rattle.plan_serve.specs.declared.status.Status.TheVariants.{Words, NetRefused, NetLong, ReadFault, Memory, Later}
-use Rattle.plan_serve.specs.Answering.{AnswersNow}
+use Rattle.eon_model.specs.Answers.{Answers}
 use Rattle.plan_serve.specs.Files.{IsAcceptedFile, IsDigestedFile}
 use Rattle.plan_serve.specs.Outside.{Outside, DiskSeen, NotRead}
 use Rattle.plan_serve.specs.Ends.{Says, DryEnds}
@@ -125,7 +125,7 @@ abbrev pub IsRoomy : Option Task → Option NamedFiles → Option (List ℕ) →
 IsRoomy (Some (Dry net commands)) files disk given standing =
     IsSomeAnd given (λ bytes. (setup : Setup) (stream missed output : List ℕ) (changes : List Event)
     → IsAcceptedFile files net setup → IsFile files commands stream
-    → Runs AnswersNow setup [] None stream missed output changes
+    → Runs Answers setup [] None stream missed output changes
     → IsSomeAnd standing.room (λ room. length bytes + length output ≤ room))
 IsRoomy (Some (Init net journal)) files disk given standing = HasRoom given standing (length init_line)
 IsRoomy (Some (Replay net journal)) files disk given standing =

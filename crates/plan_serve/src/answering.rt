@@ -7,7 +7,7 @@ ghost use Rattle.plan_serve.specs.Answering.{Decides, DecidesCommand, GoesOn, An
 
 use command_text::{Command, read_command};
 use eon_outside::{Failed, Sink};
-use plan_core::{Core, Decision, is_built};
+use plan_core::{Core, Decision};
 use reply_text::{Reply, write_reply};
 
 /// The most bytes of a command line.
@@ -28,9 +28,6 @@ fn reply_to_command(core: &mut Core, command: &Command) -> Reply
     ensures setup { core.new.setup ≡ core.old.setup }
     ensures decides { DecidesCommand core.old.setup core.old.state core.new.state (told command.now) result }
 {
-    if !is_built(command) {
-        return Reply::Later;
-    }
     match core.step(command) {
         Ok(Decision::Say(reply)) => reply,
         Ok(Decision::Change { event, reply }) => {

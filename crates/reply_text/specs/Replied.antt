@@ -41,4 +41,3 @@ reply_told (reply.Map text) = said.Reply.Map text
 reply_told (reply.Stats stats) = said.Reply.Stats stats
 reply_told (reply.Report text) = said.Reply.Report text
 reply_told reply.Bye = said.Reply.Bye
-reply_told reply.Later = said.Reply.Later

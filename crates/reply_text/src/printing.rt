@@ -193,6 +193,5 @@ pub(crate) fn put_reply<W: TextSink>(r: &Reply, setup: &NetSetup, services: &Ser
         Reply::Stats { stats } => put_stats(stats, out),
         Reply::Report { text } => put_text(text.bytes(), out),
         Reply::Bye => put_alone(b"bye", out),
-        Reply::Later => put_alone(b"later", out),
     }
 }

@@ -80,6 +80,4 @@ pub enum Reply {
     Report { text: Text },
     /// The run ends.
     Bye,
-    /// The command is not built yet.
-    Later,
 }

@@ -120,6 +120,3 @@ returns-in-Report g c =
 
 pub returns-in-Bye : goal.returns-in-Bye
 returns-in-Bye g c = rw c.in-Bye.is c.put_alone-in-Bye.ensures
-
-pub returns-in-Later : goal.returns-in-Later
-returns-in-Later g c = rw c.in-Later.is c.put_alone-in-Later.ensures
