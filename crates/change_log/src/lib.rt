@@ -1,0 +1,10 @@
+//! Where changes are kept before they are made. A log says whether an event could be kept, and how many bytes are left for more;
+//! what it is kept in is its own affair. `NoLog` keeps nothing and is never full; `JournalLog` appends to the journal of a disk.
+#![tactic(auto)]
+
+mod log;
+mod no_log;
+
+pub use journal_record::Event;
+pub use log::{Log, Unkept};
+pub use no_log::NoLog;
