@@ -1,0 +1,6 @@
+use Rattle.std.proofs.Common.{◌∙◌}
+use Rattle.std.specs.Cmp.Lexicographic.{texts_ties}
+use Rattle.net_widening.proofs.names.same_name.Goals as goal
+
+pub returns : goal.returns
+returns c = c.eq.ensures ∙ texts_ties c.args.name.now c.args.other.now
