@@ -2,9 +2,11 @@
 //! what it is kept in is its own affair. `NoLog` keeps nothing and is never full; `JournalLog` appends to the journal of a disk.
 #![tactic(auto)]
 
+mod journal_log;
 mod log;
 mod no_log;
 
+pub use journal_log::JournalLog;
 pub use journal_record::Event;
 pub use log::{Log, Unkept};
 pub use no_log::NoLog;
