@@ -199,8 +199,12 @@ impl Occupied for Maps {
         row.join(self.lit_words(fibre));
     }
 
-    fn join_taken(&self, fibre: u8, row: &mut Row) {
-        row.join(self.lit_words(fibre));
+    fn join_held(&self, fibre: u8, row: &mut Row) {
         row.join(self.held_words(fibre));
+    }
+
+    fn join_taken(&self, fibre: u8, row: &mut Row) {
+        self.join_lit(fibre, row);
+        self.join_held(fibre, row);
     }
 }

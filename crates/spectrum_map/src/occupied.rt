@@ -41,6 +41,11 @@ pub trait Occupied {
         requires { fibre < fibres self.now }
         ensures { (i : ℕ) → bit_of row.new.words i ≡ (bit_of row.old.words i || is_unit_that (band self.now) ((rows self.now).lit fibre) i) };
 
+    /// Marks in the row each unit that a shared backup holds on the fibre, likewise.
+    fn join_held(&self, fibre: u8, row: &mut Row)
+        requires { fibre < fibres self.now }
+        ensures { (i : ℕ) → bit_of row.new.words i ≡ (bit_of row.old.words i || is_unit_that (band self.now) ((rows self.now).held fibre) i) };
+
     /// Marks in the row each unit that is lit or held on the fibre, likewise.
     fn join_taken(&self, fibre: u8, row: &mut Row)
         requires { fibre < fibres self.now }

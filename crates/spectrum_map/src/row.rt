@@ -2,7 +2,7 @@
 
 ghost use Rattle.std.specs.Prelude.{◌≡◌, ℕ, ◌≤◌, pos, ◌+ℤ◌, ◌≤ℤ◌, ◌&&◌, ◌||◌, not, nat_lt, false, IsTrue, length};
 ghost use Rattle.eon_model.specs.Grid.{lies_in, span_of, is_band};
-ghost use Rattle.spectrum_map.specs.Bits.{bit_of, is_between, TellsClear};
+ghost use Rattle.spectrum_map.specs.Bits.{bit_of, is_between, TellsClear, IsHighestOf};
 ghost use Rattle.spectrum_map.specs.Kept.{ArePlaces, place_of};
 
 use crate::bits::{ROW, clear_bits, highest_bit, set_bits};
@@ -61,6 +61,14 @@ impl Row {
         ensures { TellsClear (bit_of self.now.words) first end result }
     {
         highest_bit(&self.words, first, end).is_none()
+    }
+
+    /// The greatest place from `first` up to and without `end` that is marked. None exactly where there is none.
+    pub fn highest(&self, first: usize, end: usize) -> Option<usize>
+        requires { end ≤ 1024 }
+        ensures { IsHighestOf (bit_of self.now.words) first end result }
+    {
+        highest_bit(&self.words, first, end)
     }
 
     /// Marks each place that is 1 in these words.

@@ -1,0 +1,4 @@
+pub mod MarkLaws
+pub mod TopLaws
+pub mod OverLaws
+pub mod ChangeLaws
