@@ -1,1 +1,2 @@
 mod KeepSteps
+mod CrashLaws

@@ -3,6 +3,7 @@
 #![tactic(auto)]
 
 mod journal_log;
+pub mod laws;
 mod log;
 mod no_log;
 

@@ -1,0 +1,5 @@
+use Rattle.change_log.proofs.CrashLaws.{kept-safe-now}
+use Rattle.change_log.proofs.laws.kept_is_safe_now.Goals as goal
+
+pub returns : goal.returns
+returns g c = kept-safe-now g.D.Disk.now g.D.Disk.images g.D.Disk.clock g.D.Disk.images_since
