@@ -1,6 +1,6 @@
 //! One row of the file: a change of the sheet, or a question with the answer that is wanted.
 
-use crate::sheet::{Change, Sheet};
+use crate::sheet::{Change, Sheet, Wish};
 use flex_grid::band::Band;
 use flex_grid::units::Units;
 use std::alloc::{AllocError, Global};
@@ -106,6 +106,33 @@ fn lowest_of(alloc: Global, sheet: &Sheet, numbers: &[i16]) -> Result<Option<i16
     }
 }
 
+/// What is wished for: a fibre, and the lowest and the highest unit of what would be lit, and of what would be dark.
+fn wish_of(numbers: &[i16]) -> Option<Wish> {
+    let [fibre, lo, hi, dark_lo, dark_hi] = numbers else {
+        return None;
+    };
+    match (
+        u8::try_from(*fibre),
+        Units::make(*lo, *hi),
+        Units::make(*dark_lo, *dark_hi),
+    ) {
+        (Ok(fibre), Some(lit), Some(dark)) => Some(Wish { fibre, lit, dark }),
+        _ => None,
+    }
+}
+
+/// The least free centre where all is as wished: a width, the least centre that is asked for, and the wish.
+fn lowest_if_of(sheet: &mut Sheet, numbers: &[i16]) -> Option<i16> {
+    let [width, from, wish @ ..] = numbers else {
+        return None;
+    };
+    let wish = wish_of(wish)?;
+    match u16::try_from(*width) {
+        Ok(m) => sheet.lowest_if(&wish, m, *from),
+        Err(_) => None,
+    }
+}
+
 /// The greatest unit that is lit or held: a fibre, and a unit above it.
 fn top_of(sheet: &Sheet, numbers: &[i16]) -> Option<i16> {
     let [fibre, unit] = numbers else {
@@ -131,7 +158,7 @@ fn judged(want: &str, answer: Option<i16>) -> Outcome {
 }
 
 /// Asks a question: its name, what is wanted, and its numbers.
-fn asked(alloc: Global, sheet: &Sheet, verb: &str, rest: &str) -> Result<Outcome, AllocError> {
+fn asked(alloc: Global, sheet: &mut Sheet, verb: &str, rest: &str) -> Result<Outcome, AllocError> {
     let Some((_name, rest)) = rest.split_once(' ') else {
         return Ok(Outcome::Refused);
     };
@@ -141,13 +168,14 @@ fn asked(alloc: Global, sheet: &Sheet, verb: &str, rest: &str) -> Result<Outcome
     let numbers = numbers_of(alloc, rest)?;
     match verb {
         "lowest" => Ok(judged(want, lowest_of(alloc, sheet, numbers.as_slice())?)),
+        "lowest-if" => Ok(judged(want, lowest_if_of(sheet, numbers.as_slice()))),
         "top" => Ok(judged(want, top_of(sheet, numbers.as_slice()))),
         _ => Ok(Outcome::Refused),
     }
 }
 
 /// Takes one line: `band FIBRES LO HI ..`, one of `light`, `darken`, `hold` and `let-go` with `FIBRE LO HI`,
-/// `lowest NAME WANT WIDTH FROM FIBRE ..`, or `top NAME WANT FIBRE UNIT`.
+/// `lowest NAME WANT WIDTH FROM FIBRE ..`, `lowest-if NAME WANT WIDTH FROM FIBRE LO HI LO HI`, or `top NAME WANT FIBRE UNIT`.
 pub(crate) fn outcome_of(
     alloc: Global,
     sheet: &mut Sheet,

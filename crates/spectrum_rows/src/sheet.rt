@@ -1,14 +1,18 @@
 //! Maps that a file of rows fills. Each call tests what the maps ask for, so that any row may be tried.
 
-ghost use Rattle.std.specs.Prelude.{◌≡◌, ◌<◌, pos, ◌+ℤ◌, true, IsTrue, IfSome};
+ghost use Rattle.std.specs.Prelude.{◌≡◌, ◌<◌, pos, ◌+ℤ◌, true, IsTrue, IfSome, length, [], ◌∷◌};
 ghost use Rattle.std.specs.List.{AllByRecursion};
 ghost use Rattle.eon_model.specs.Grid.{lies_in, span_of, unit_count};
 ghost use Rattle.spectrum_map.specs.Kept.{rows_in};
-ghost use Rattle.spectrum_rows.specs.Sheets.{IsSheet, IsUnitOf, PassTo};
+ghost use Rattle.eon_model.specs.FirstInRows.{least_free};
+ghost use Rattle.layer_view.specs.Layers.{rows_over, KeepsShape};
+ghost use Rattle.spectrum_rows.specs.Sheets.{IsSheet, AreRowsOf, IsUnitOf, PassTo};
+ghost use Rattle.spectrum_rows.specs.Wishes.{as_wished};
 
 use block_fit::lowest;
 use flex_grid::band::Band;
 use flex_grid::units::Units;
+use layer_view::{Layer, LayerRows};
 use spectrum_map::{Maps, Occupied};
 use std::alloc::{AllocError, Global};
 
@@ -28,14 +32,27 @@ pub enum Change {
 /// The most backups that are held on a sheet.
 const MOST_HOLDS: u16 = 8000;
 
-/// Maps, with what they are of, and with how many backups were held on them.
+/// Units of a fibre that are looked at as if they were lit, and then others as if they were dark.
+#[derive(Clone, Copy, Debug)]
+pub struct Wish {
+    /// The fibre.
+    pub fibre: u8,
+    /// What would be lit.
+    pub lit: Units,
+    /// What would then be dark.
+    pub dark: Units,
+}
+
+/// Maps, with what they are of, with how many backups were held on them, and with rows for layers over them.
 #[derive(Drop)]
 pub struct Sheet {
     band: Band,
     fibres: u8,
     maps: Maps,
     holds: u16,
+    rows: LayerRows,
     ghost kept: { IsSheet maps band fibres holds },
+    ghost suited: { AreRowsOf rows band fibres },
 }
 
 // How many units these are.
@@ -54,6 +71,46 @@ fn unit_of(units: &Units, i: u16) -> Option<Units>
     Units::make(unit, unit)
 }
 
+// A layer over the maps, with what is wished for.
+fn layer_of<'a>(maps: &'a Maps, rows: &'a mut LayerRows, wish: &Wish) -> Layer<'a, Maps>
+    requires band { rows.old.band ≡ maps.now.band }
+    requires fibres { length rows.old.rows ≡ maps.now.fibres }
+    requires fibre { wish.now.fibre < maps.now.fibres }
+    requires lit { IsTrue (lies_in (span_of maps.now.band) wish.now.lit) }
+    requires dark { IsTrue (lies_in (span_of maps.now.band) wish.now.dark) }
+    ensures same_reference { result.rows.ghost_name ≡ rows.entry.ghost_name }
+    ensures shape { KeepsShape rows.old result.rows.now }
+    ensures base { result.base.now ≡ maps.now }
+    ensures rows { rows_over (rows_in maps.now) result.rows.now result.own ≡ as_wished wish.now (rows_in maps.now) }
+{
+    let mut layer = Layer::over(maps, rows);
+    layer.set_lit(&[wish.fibre], wish.lit);
+    layer.clear_lit(&[wish.fibre], wish.dark);
+    layer
+}
+
+// The least free centre from `from` on for a slot of width m on the fibre, where all is as wished.
+fn lowest_as_wished(
+    maps: &Maps,
+    rows: &mut LayerRows,
+    wish: &Wish,
+    m: u16,
+    band: Band,
+    from: i16,
+) -> Option<i16>
+    requires view { band ≡ maps.now.band }
+    requires band { rows.old.band ≡ maps.now.band }
+    requires fibres { length rows.old.rows ≡ maps.now.fibres }
+    requires fibre { wish.now.fibre < maps.now.fibres }
+    requires lit { IsTrue (lies_in (span_of maps.now.band) wish.now.lit) }
+    requires dark { IsTrue (lies_in (span_of maps.now.band) wish.now.dark) }
+    ensures shape { KeepsShape rows.old rows.new }
+    ensures answer { result ≡ least_free (as_wished wish.now (rows_in maps.now)) (wish.now.fibre ∷ []) m band from }
+{
+    let layer = layer_of(maps, rows, wish);
+    lowest(&layer, &[wish.fibre], m, band, from)
+}
+
 impl Sheet {
     /// A sheet with nothing lit or held.
     pub(crate) fn new(alloc: Global, band: Band, fibres: u8) -> Result<Sheet, AllocError> {
@@ -62,6 +119,7 @@ impl Sheet {
             fibres,
             maps: Maps::new(alloc, band, fibres)?,
             holds: 0,
+            rows: LayerRows::new(alloc, band, fibres)?,
         })
     }
 
@@ -202,6 +260,14 @@ impl Sheet {
             return None;
         }
         lowest(&self.maps, fibres, m, self.band, from)
+    }
+
+    /// The least free centre from `from` on, on the fibre, where all is as wished, and the fibre and the units are there.
+    pub(crate) fn lowest_if(&mut self, wish: &Wish, m: u16, from: i16) -> Option<i16> {
+        if !self.has(wish.fibre, &wish.lit) || !self.has(wish.fibre, &wish.dark) {
+            return None;
+        }
+        lowest_as_wished(&self.maps, &mut self.rows, wish, m, self.band, from)
     }
 
     /// The greatest unit below this one that is lit or held on the fibre, where it is there.

@@ -9,4 +9,4 @@ take_lit-requires-clause-lit c =
 pub invariant_of-self : goal.invariant_of-self
 invariant_of-self c =
     let s = c.args.self.now.kept in
-    record { kept = sheet-kept _ _ _ _ _ c.args.self.now.kept _ _ c.take_lit.ensures s.few }
+    record { kept = sheet-kept _ _ _ _ _ c.args.self.now.kept _ _ c.take_lit.ensures s.few; suited = c.args.self.now.suited }

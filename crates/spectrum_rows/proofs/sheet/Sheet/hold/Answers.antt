@@ -15,4 +15,5 @@ invariant_of-self c =
     record {
       kept = sheet-more _ _ _ _ _ c.args.self.now.kept _ _ c.add_held.ensures
           (held_few c.args.units (c.args.fibre ∷ []) (holders_in c.args.self.now.maps) c.args.self.now.holds s.few);
+      suited = c.args.self.now.suited;
     }

@@ -14,4 +14,5 @@ invariant_of-self c =
     record {
       kept = sheet-kept _ _ _ _ _ c.args.self.now.kept _ _ c.take_held.ensures
           (let_go_few c.args.units (c.args.fibre ∷ []) (holders_in c.args.self.now.maps) c.args.self.now.holds s.few);
+      suited = c.args.self.now.suited;
     }

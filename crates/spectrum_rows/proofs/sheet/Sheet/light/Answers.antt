@@ -10,4 +10,4 @@ add_lit-requires-clause-dark c =
 pub invariant_of-self : goal.invariant_of-self
 invariant_of-self c =
     let s = c.args.self.now.kept in
-    record { kept = sheet-kept _ _ _ _ _ c.args.self.now.kept _ _ c.add_lit.ensures s.few }
+    record { kept = sheet-kept _ _ _ _ _ c.args.self.now.kept _ _ c.add_lit.ensures s.few; suited = c.args.self.now.suited }
