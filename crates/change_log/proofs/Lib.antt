@@ -1,2 +1,3 @@
 mod KeepSteps
 mod CrashLaws
+mod OpenSteps

@@ -2,3 +2,4 @@ pub mod Keeping
 pub mod Holding
 pub mod HoldingLaws
 pub mod Crash
+pub mod Opening

@@ -6,8 +6,10 @@ mod journal_log;
 pub mod laws;
 mod log;
 mod no_log;
+mod opening;
 
 pub use journal_log::JournalLog;
 pub use journal_record::Event;
 pub use log::{Log, Unkept};
 pub use no_log::NoLog;
+pub use opening::open_log;
