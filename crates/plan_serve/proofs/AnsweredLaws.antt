@@ -1,5 +1,5 @@
 -- Lines that are answered one after the other.
-use Rattle.std.proofs.Common.{◌≡◌, ◌≢◌, refl, sym, ◌∙◌, ap, subst, ℕ, ◌+◌, Bool, true, false, List, [], ◌∷◌, ◌++◌, append_assoc, length, length-append, Option, None, arith, not}
+use Rattle.std.proofs.Common.{◌≡◌, ◌≢◌, refl, sym, ◌∙◌, ap, subst, ℕ, ◌+◌, Bool, true, false, List, [], ◌∷◌, ◌++◌, append_assoc, length, length-append, Option, arith, not}
 use Rattle.std.specs.Prelude.{MatchBool, ⊤}
 use Rattle.std.specs.List.{list_all}
 use Rattle.std.specs.Io.KnownBytes.{Appends}
@@ -7,9 +7,9 @@ use Rattle.std.proofs.lemmas.List.{append-nil}
 use Rattle.eon_model.specs.Services.{State}
 use Rattle.eon_model.specs.Legal.{Setup, Legal}
 use Rattle.eon_model.specs.NetworkText.{is_setup}
-use Rattle.eon_model.specs.Answers.{Answer, Answers, state_after, takes_memory}
+use Rattle.eon_model.specs.Answers.{Answer, Answers, takes_memory}
 use Rattle.eon_model.specs.LineStream.{is_quit, lines_of, AnswersEach, after_each}
-use Rattle.eon_model.specs.Run.{Runs, Situation, situation, planner, answer_text, answers_text, changes_of, state_at_end, MissesOnly}
+use Rattle.eon_model.specs.Run.{Runs, Situation, situation_after, planner, answer_text, answers_text, changes_of, state_at_end, MissesOnly}
 use Rattle.eon_model.proofs.AnswersWell.{Answers-well}
 use Rattle.eon_model.proofs.RunLaws.{stays, states-sound, beginnings-early, answers_text-append}
 use Rattle.eon_model.proofs.StreamRuns.{each-goes_on}
@@ -19,31 +19,32 @@ use Rattle.plan_serve.specs.Session.{Answered, AreAnswered}
 use Rattle.plan_serve.specs.Ends.{Serves, Begins, GoesOnBehind}
 use Rattle.plan_serve.proofs.StreamLaws.{answers-then, answers-agree, with_mark, mark-below, mark-at, mark-behind, misses-agree, misses-none}
 
--- how the planner stands after some answers
-after-answers : (setup : Setup) (state : State) (answers : List Answer) →
-    after_each (planner Answers setup) (situation state None) answers ≡ situation (state_at_end setup state answers) None
-after-answers setup state [] = refl
-after-answers setup state (a ∷ later) = after-answers setup (state_after setup.network state a.event) later
+-- the state after some answers
+after-answers : (setup : Setup) (s : Situation) (answers : List Answer) →
+    (after_each (planner Answers setup) s answers).state ≡ state_at_end setup s.state answers
+after-answers setup s [] = refl
+after-answers setup s (a ∷ later) = after-answers setup (situation_after setup s a) later
 
-end-append : (setup : Setup) (state : State) (xs ys : List Answer) →
-    state_at_end setup state (xs ++ ys) ≡ state_at_end setup (state_at_end setup state xs) ys
-end-append setup state [] ys = refl
-end-append setup state (x ∷ xs) ys = end-append setup (state_after setup.network state x.event) xs ys
+end-append : (setup : Setup) (s : Situation) (xs ys : List Answer) →
+    after_each (planner Answers setup) s (xs ++ ys)
+    ≡ after_each (planner Answers setup) (after_each (planner Answers setup) s xs) ys
+end-append setup s [] ys = refl
+end-append setup s (x ∷ xs) ys = end-append setup (situation_after setup s x) xs ys
 
 -- ---- one line more
 
-pub answered_none : (setup : Setup) (start : State) → AreAnswered setup start [] start []
+pub answered_none : (setup : Setup) (start : Situation) → AreAnswered setup start [] start []
 answered_none setup start = record {
   missed = [];
   answers = [];
   answered = tt;
   behind = λ n l. refl;
   only = tt;
-  state = refl;
+  stands = refl;
   told = refl;
 }
 
-module _ (setup : Setup) (start here : State) (lines : List (List ℕ)) (text line : List ℕ) (mark : Bool) (a : Answer)
+module _ (setup : Setup) (start here : Situation) (lines : List (List ℕ)) (text line : List ℕ) (mark : Bool) (a : Answer)
     (none_quits : list_all (λ line. not (is_quit line)) lines ≡ true) (h : AreAnswered setup start lines here text)
     (has : HasAnswer setup here line mark a) where
   abbrev number : ℕ
@@ -55,9 +56,6 @@ module _ (setup : Setup) (start here : State) (lines : List (List ℕ)) (text li
   abbrev nothing : List Answer
   nothing = []
 
-  stands : after_each (planner Answers setup) (situation start None) h.answers ≡ situation here None
-  stands = after-answers setup start h.answers ∙ ap (λ (v : State). situation v None) (sym h.state)
-
   last : (more : List (List ℕ)) (s : Situation) (quit : Bool) → MatchBool quit ⊤ (more ≡ []) →
       MatchBool quit (nothing ≡ []) (AnswersEach (planner Answers setup) missed (number + 1) s more nothing)
   last more s true e = refl
@@ -68,13 +66,13 @@ module _ (setup : Setup) (start here : State) (lines : List (List ℕ)) (text li
   next_line : (more : List (List ℕ)) → MatchBool (is_quit line) ⊤ (more ≡ []) →
       Answered setup missed start (lines ++ line ∷ more) (h.answers ++ a ∷ [])
   next_line more end =
-      answers-then (planner Answers setup) missed 1 (situation start None) lines (line ∷ more) h.answers (a ∷ []) none_quits
-      (answers-agree (planner Answers setup) h.missed missed 1 (situation start None) lines h.answers
+      answers-then (planner Answers setup) missed 1 start lines (line ∷ more) h.answers (a ∷ []) none_quits
+      (answers-agree (planner Answers setup) h.missed missed 1 start lines h.answers
       (λ n l. mark-below mark number n h.missed l) h.answered)
       (subst (λ (s : Situation). AnswersEach (planner Answers setup) missed number s (line ∷ more) (a ∷ nothing))
-      (sym stands) (
-        subst (λ (b : Bool). Answers setup here None line b a) (mark-at mark number h.missed h.behind) has.is,
-        last more (situation (state_after setup.network here a.event) None) (is_quit line) end,
+      h.stands (
+        subst (λ (b : Bool). Answers setup here.state here.left line b a) (mark-at mark number h.missed h.behind) has.is,
+        last more (situation_after setup here a) (is_quit line) end,
       ))
 
   one_more : length (lines ++ line ∷ []) + 1 ≡ number + 1
@@ -84,8 +82,8 @@ module _ (setup : Setup) (start here : State) (lines : List (List ℕ)) (text li
   any_end true = tt
   any_end false = refl
 
-  pub answered_more : AreAnswered setup start (lines ++ line ∷ []) (state_after setup.network here a.event)
-      (text ++ answer_text setup here a)
+  pub answered_more : AreAnswered setup start (lines ++ line ∷ []) (situation_after setup here a)
+      (text ++ answer_text setup here.state a)
   answered_more = record {
     missed = missed;
     answers = h.answers ++ a ∷ [];
@@ -93,13 +91,14 @@ module _ (setup : Setup) (start here : State) (lines : List (List ℕ)) (text li
     behind = λ n l. mark-behind mark number h.missed h.behind n (omega (arith, one_more));
     only = misses-agree takes_memory h.missed missed 1 lines (line ∷ []) (λ n l. mark-below mark number n h.missed l) h.only
         (subst (λ (b : Bool). MatchBool b (TakesMemory line) ⊤) (mark-at mark number h.missed h.behind) has.only, tt);
-    state = sym (end-append setup start h.answers (a ∷ [])
-        ∙ ap (λ (v : State). state_after setup.network v a.event) (sym h.state));
-    told = ap (λ (v : List ℕ). v ++ answer_text setup here a) h.told
-        ∙ ap (λ (v : State). answers_text setup start h.answers ++ answer_text setup v a) h.state
-        ∙ ap (λ (v : List ℕ). answers_text setup start h.answers ++ v)
-        (sym (append-nil (answer_text setup (state_at_end setup start h.answers) a)))
-        ∙ sym (answers_text-append setup start h.answers (a ∷ []));
+    stands = sym (end-append setup start h.answers (a ∷ [])
+        ∙ ap (λ (v : Situation). situation_after setup v a) (sym h.stands));
+    told = ap (λ (v : List ℕ). v ++ answer_text setup here.state a) h.told
+        ∙ ap (λ (v : State). answers_text setup start.state h.answers ++ answer_text setup v a)
+        (ap (λ (v : Situation). v.state) h.stands ∙ after-answers setup start h.answers)
+        ∙ ap (λ (v : List ℕ). answers_text setup start.state h.answers ++ v)
+        (sym (append-nil (answer_text setup (state_at_end setup start.state h.answers) a)))
+        ∙ sym (answers_text-append setup start.state h.answers (a ∷ []));
   }
 
   -- the answers up to `quit`, whatever comes behind it
@@ -112,13 +111,13 @@ module _ (setup : Setup) (start here : State) (lines : List (List ℕ)) (text li
 
 -- ---- runs
 
-module _ (setup : Setup) (start here : State) (ok : is_setup setup ≡ true) (legal : Legal setup start)
+module _ (setup : Setup) (start here : Situation) (ok : is_setup setup ≡ true) (legal : Legal setup start.state)
     (lines : List (List ℕ)) (text : List ℕ) (h : AreAnswered setup start lines here text)
     (bytes : List ℕ) (before now : Option (List ℕ)) where
   -- all lines are answered
   pub serves_lines : lines_of bytes ≡ lines → Appends before now text → Serves setup start bytes before now
   serves_lines is given =
-      let run : Runs Answers setup start None bytes h.missed text (changes_of h.answers) = record {
+      let run : Runs Answers setup start.state start.left bytes h.missed text (changes_of h.answers) = record {
         answers = h.answers;
         answered = subst (λ (v : List (List ℕ)). Answered setup h.missed start v h.answers) (sym is) h.answered;
         told = h.told;
@@ -129,7 +128,7 @@ module _ (setup : Setup) (start here : State) (ok : is_setup setup ≡ true) (le
         changes = changes_of h.answers;
         run = run;
         only = subst (λ (v : List (List ℕ)). MissesOnly takes_memory h.missed 1 v) (sym is) h.only;
-        sound = (states-sound Answers Answers-well setup start None bytes h.missed ok legal).0 text
+        sound = (states-sound Answers Answers-well setup start.state start.left bytes h.missed ok legal).0 text
             (changes_of h.answers) run;
         given = given;
       }
@@ -144,7 +143,7 @@ module _ (setup : Setup) (start here : State) (ok : is_setup setup ≡ true) (le
       Answered setup h.missed start (lines ++ more) h.answers → Appends before now text →
       Serves setup start bytes before now
   serves_quit more is whole given =
-      let run : Runs Answers setup start None bytes h.missed text (changes_of h.answers) = record {
+      let run : Runs Answers setup start.state start.left bytes h.missed text (changes_of h.answers) = record {
         answers = h.answers;
         answered = subst (λ (v : List (List ℕ)). Answered setup h.missed start v h.answers) (sym is) whole;
         told = h.told;
@@ -155,7 +154,7 @@ module _ (setup : Setup) (start here : State) (ok : is_setup setup ≡ true) (le
         changes = changes_of h.answers;
         run = run;
         only = subst (λ (v : List (List ℕ)). MissesOnly takes_memory h.missed 1 v) (sym is) (only_more more);
-        sound = (states-sound Answers Answers-well setup start None bytes h.missed ok legal).0 text
+        sound = (states-sound Answers Answers-well setup start.state start.left bytes h.missed ok legal).0 text
             (changes_of h.answers) run;
         given = given;
       }
@@ -164,20 +163,20 @@ module _ (setup : Setup) (start here : State) (ok : is_setup setup ≡ true) (le
   record GoesOn : Type 0 where
     answers : List Answer
     rest : List ℕ
-    run : Runs Answers setup start None bytes h.missed (text ++ rest) (changes_of answers)
+    run : Runs Answers setup start.state start.left bytes h.missed (text ++ rest) (changes_of answers)
 
   goes_on : (more : List (List ℕ)) → lines_of bytes ≡ lines ++ more → GoesOn
   goes_on more is =
       let later = each-goes_on (planner Answers setup) (λ s. Legal setup s.state)
-      (stays Answers Answers-well setup ok) h.missed 1 (situation start None) lines more h.answers legal h.behind
+      (stays Answers Answers-well setup ok) h.missed 1 start lines more h.answers legal h.behind
       h.answered in
-      let rest = answers_text setup (state_at_end setup start h.answers) later.0 in record {
+      let rest = answers_text setup (state_at_end setup start.state h.answers) later.0 in record {
         answers = h.answers ++ later.0;
         rest = rest;
         run = record {
           answers = h.answers ++ later.0;
           answered = subst (λ (v : List (List ℕ)). Answered setup h.missed start v (h.answers ++ later.0)) (sym is) later.1;
-          told = ap (λ (v : List ℕ). v ++ rest) h.told ∙ sym (answers_text-append setup start h.answers later.0);
+          told = ap (λ (v : List ℕ). v ++ rest) h.told ∙ sym (answers_text-append setup start.state h.answers later.0);
           changed = refl;
         };
       }
@@ -189,7 +188,7 @@ module _ (setup : Setup) (start here : State) (ok : is_setup setup ≡ true) (le
       let r = goes_on more is in
       let part : front ++ (left ++ r.rest) ≡ text ++ r.rest =
       sym (append_assoc front left r.rest) ∙ ap (λ (v : List ℕ). v ++ r.rest) cut in
-      let early = beginnings-early Answers Answers-well setup start None bytes h.missed (text ++ r.rest) front
+      let early = beginnings-early Answers Answers-well setup start.state start.left bytes h.missed (text ++ r.rest) front
       (changes_of r.answers) ok legal r.run (left ++ r.rest, part) in (
         record {
           missed = early.0;
@@ -197,7 +196,7 @@ module _ (setup : Setup) (start here : State) (ok : is_setup setup ≡ true) (le
           run = early.1.1;
           only = misses-fewer takes_memory h.missed early.0 1 (lines_of bytes) early.1.0
               (subst (λ (v : List (List ℕ)). MissesOnly takes_memory h.missed 1 v) (sym is) (only_more more));
-          sound = (states-sound Answers Answers-well setup start None bytes early.0 ok legal).1 front early.1.1;
+          sound = (states-sound Answers Answers-well setup start.state start.left bytes early.0 ok legal).1 front early.1.1;
           given = given;
         },
         refl,
@@ -212,7 +211,7 @@ module _ (setup : Setup) (start here : State) (ok : is_setup setup ≡ true) (le
         rest = left ++ r.rest;
         changes = changes_of r.answers;
         more = λ none. some (first_empty left r.rest none);
-        run = subst (λ (v : List ℕ). Runs Answers setup start None bytes h.missed v (changes_of r.answers))
+        run = subst (λ (v : List ℕ). Runs Answers setup start.state start.left bytes h.missed v (changes_of r.answers))
             (sym (sym (append_assoc front left r.rest) ∙ ap (λ (v : List ℕ). v ++ r.rest) cut)) r.run;
       }
     where

@@ -30,6 +30,7 @@ use Rattle.plan_serve.specs.declared.status.Status.{Status}
 use Rattle.plan_serve.specs.declared.status.Status.TheVariants.{Done, NetRefused, NetLong, ReadFault, DiskFault, JournalRefused, JournalOther, NotEmpty, Memory, WriteFault, InputLong}
 use Rattle.plan_serve.specs.Files.{IsAcceptedFile, IsDigestedFile}
 use Rattle.plan_serve.specs.Outside.{Outside, Output, output_of, DiskSeen}
+use Rattle.eon_model.specs.Run.{situation}
 use Rattle.plan_serve.specs.Ends.{GoesOnBehind, EndsAtNetwork, DryEnds}
 use Rattle.plan_serve.specs.JournalEnds.{Tells, MakeEnds, InitEnds, TellEnds, ReplayEnds}
 use Rattle.plan_serve.proofs.JournalModeLaws.{made_left}
@@ -299,7 +300,7 @@ dry_broken net commands disk before now old new h roomy same counts sure =
     by_given before.given h.3.2.begins.given h.3.2.early roomy
   where
     by_given : (given : Option (List ℕ)) → Appends given now.given h.3.2.begins.part →
-        IfSome given (λ _. GoesOnBehind h.3.0 [] h.3.2.stream h.3.2.begins.part) →
+        IfSome given (λ _. GoesOnBehind h.3.0 (situation [] None) h.3.2.stream h.3.2.begins.part) →
         IsRoomy (Some (Dry net commands)) before.files disk given old → ⊥
     by_given None appends early roomy = roomy
     by_given (Some bytes) appends early roomy =

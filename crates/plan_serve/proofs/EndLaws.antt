@@ -4,7 +4,7 @@ use Rattle.std.specs.Prelude.{IsTrue, IfSome, ◌==◌}
 use Rattle.std.specs.Io.KnownBytes.{Appends, Consumes, Keeps, IsAtEnd}
 use Rattle.std.proofs.lemmas.List.{length-take-le, length-drop, take-take, take-append-drop}
 use Rattle.std.proofs.Math.Seq.{take-append_seam, take-append-add}
-use Rattle.eon_model.specs.Services.{State}
+use Rattle.eon_model.specs.Run.{Situation}
 use Rattle.eon_model.specs.Legal.{Setup, Legal}
 use Rattle.eon_model.specs.NetworkText.{is_setup}
 use Rattle.eon_model.specs.Modes.{stream_limit}
@@ -75,19 +75,19 @@ left_ends (Some left) e = e
 -- ---- so far
 
 -- So many bytes were read of the stream, and this came of them.
-pub record Going (setup : Setup) (start : State) (whole left before : Option (List ℕ)) (here : State) (begun : List ℕ)
+pub record Going (setup : Setup) (start : Situation) (whole left before : Option (List ℕ)) (here : Situation) (begun : List ℕ)
     (count : ℕ) (now : Option (List ℕ)) : Type 0 where
   pub taken : List ℕ
   pub read : Consumes whole left taken
   pub counted : length taken ≡ count
   pub goes : Goes setup start before here begun taken now
 
-pub going_begin : (setup : Setup) (start : State) (whole before : Option (List ℕ)) (begun : List ℕ) →
+pub going_begin : (setup : Setup) (start : Situation) (whole before : Option (List ℕ)) (begun : List ℕ) →
     Goes setup start before start begun [] before → Going setup start whole whole before start begun 0 before
 going_begin setup start whole before begun goes =
     record { taken = []; read = consumes_none whole; counted = refl; goes = goes }
 
-pub going_on : (setup : Setup) (start here last : State) (left next : Option (List ℕ)) (whole before now : Option (List ℕ))
+pub going_on : (setup : Setup) (start here last : Situation) (left next : Option (List ℕ)) (whole before now : Option (List ℕ))
     (begun : List ℕ) → {count : ℕ} → (h : Going setup start whole left before here begun count now) → (piece : List ℕ)
     (size : ℕ) (kept : List ℕ) (then : Option (List ℕ)) → length piece ≡ size → Consumes left next piece →
     Goes setup start before last kept (h.taken ++ piece) then →
@@ -152,14 +152,14 @@ front_of n a p low =
     let whole : length a + (n - length a) ≡ n = omega arith in
     ap (λ (v : ℕ). take v (a ++ p)) (sym whole) ∙ take-append-add a p (n - length a)
 
-early_is : (setup : Setup) (start : State) (bytes : List ℕ) (old : Option (List ℕ)) (front left part : List ℕ) →
+early_is : (setup : Setup) (start : Situation) (bytes : List ℕ) (old : Option (List ℕ)) (front left part : List ℕ) →
     IfSome old (λ _. left ≢ []) → part ≡ front → (left ≢ [] → GoesOnBehind setup start bytes front) →
     IfSome old (λ _. GoesOnBehind setup start bytes part)
 early_is setup start bytes None front left part some is more = tt
 early_is setup start bytes (Some known) front left part some is more =
     subst (λ (v : List ℕ). GoesOnBehind setup start bytes v) (sym is) (more some)
 
-module _ (setup : Setup) (start here : State) (ok : is_setup setup ≡ true) (legal : Legal setup start)
+module _ (setup : Setup) (start here : Situation) (ok : is_setup setup ≡ true) (legal : Legal setup start.state)
     (whole left next before now : Option (List ℕ)) (begun : List ℕ) (count : ℕ) (old new : Option (List ℕ))
     (h : Going setup start whole left before here begun count now) where
   abbrev goes : Goes setup start before here begun h.taken now
@@ -199,7 +199,7 @@ module _ (setup : Setup) (start here : State) (ok : is_setup setup ≡ true) (le
     size : length taken ≡ count + length piece
     size = length-append h.taken piece ∙ ap (λ (v : ℕ). v + length piece) h.counted
 
-    pub stops_at_long : (last : State) (kept : List ℕ) (then : Option (List ℕ)) → count + length piece ≡ stream_limit →
+    pub stops_at_long : (last : Situation) (kept : List ℕ) (then : Option (List ℕ)) → count + length piece ≡ stream_limit →
         0 < length more → (k : Goes setup start before last kept taken then) → Appends old new k.text →
         StopsAtLong (IsLeft whole) setup start old new
     stops_at_long last kept then full some k given =
@@ -300,7 +300,7 @@ module _ (setup : Setup) (start here : State) (ok : is_setup setup ≡ true) (le
     one_line : (begun ≡ [] → ⊥) → lines_of h.taken ≡ lines_of (h.taken ++ 10 ∷ [])
     one_line some = last_ends h.taken goes.rest goes.lines goes.splits goes.unended (begun_rest some)
 
-    pub ends_none : (last : State) (then : Option (List ℕ)) → begun ≡ [] → (k : Goes setup start before last begun h.taken then) →
+    pub ends_none : (last : Situation) (then : Option (List ℕ)) → begun ≡ [] → (k : Goes setup start before last begun h.taken then) →
         Appends old new k.text → AnswersAll (IsLeft whole) setup start next old new
     ends_none last then none k given =
         let rest : k.rest ≡ [] = empty_front most_kept k.rest (omega arith) (sym k.kept ∙ none) in
@@ -308,7 +308,7 @@ module _ (setup : Setup) (start here : State) (ok : is_setup setup ≡ true) (le
         (ap lines_of (sym (no_text_more h.taken)) ∙ lines_of-split h.taken k.rest [] k.lines k.splits
         ∙ ap (λ (v : List ℕ). k.lines ++ lines_of (v ++ [])) rest ∙ no_lines_more k.lines) given)
 
-    pub ends_goes : (last : State) (kept : List ℕ) (then : Option (List ℕ)) → (begun ≡ [] → ⊥) →
+    pub ends_goes : (last : Situation) (kept : List ℕ) (then : Option (List ℕ)) → (begun ≡ [] → ⊥) →
         (k : Goes setup start before last kept (h.taken ++ 10 ∷ []) then) → Appends old new k.text →
         AnswersAll (IsLeft whole) setup start next old new
     ends_goes last kept then some k given =
@@ -350,7 +350,7 @@ module _ (setup : Setup) (start here : State) (ok : is_setup setup ≡ true) (le
         }
 
     -- as the status says
-    pub finishes : (last : State) (held : List ℕ) (then : Option (List ℕ)) (status : Status) →
+    pub finishes : (last : Situation) (held : List ℕ) (then : Option (List ℕ)) (status : Status) →
         (status ≡ Done → (text : List ℕ) → Appends before then text → Appends old new text) →
         ((front left text : List ℕ) → front ++ left ≡ text → (held ++ left ≡ [] → ⊥) → Appends before then front →
         Below old new text) →
@@ -387,7 +387,7 @@ cut_at buffer some count low within =
 
 -- ---- what the calls tell, over the setup at the begin
 
-module _ (setup same : Setup) (start here last : State) (before now then : Option (List ℕ))
+module _ (setup same : Setup) (start here last : Situation) (before now then : Option (List ℕ))
     (begun bytes held : List ℕ) (is : same ≡ setup) (goes : Goes setup start before here begun bytes now) where
   pub finish_told : (status : Status) →
       (Goes same start before here begun bytes now → FinishesAt same start before last begun bytes held then status) →

@@ -2,7 +2,7 @@
 use Rattle.std.proofs.Common.{◌≡◌, sym, ◌∙◌, ap, zero, suc, inl, inr, ℕ, ◌<◌, ◌==◌, false, List, [], ◌∷◌, ◌++◌, length, drop, Option, Ok, Err, arith}
 use Rattle.std.specs.Io.KnownBytes.{Keeps}
 use Rattle.std.proofs.lemmas.List.{append-nil, length-drop}
-use Rattle.eon_model.specs.Services.{State}
+use Rattle.eon_model.specs.Run.{Situation}
 use Rattle.eon_model.specs.Legal.{Setup}
 use Rattle.eon_outside.specs.declared.reading.Failed.{Failed}
 use Rattle.eon_outside.specs.Held.{given_since, Flushes}
@@ -12,7 +12,7 @@ use Rattle.plan_serve.specs.declared.status.Status.TheVariants.{Done}
 use Rattle.plan_serve.specs.Session.{Goes, Quits, Breaks, Feeds, FinishesAt}
 use Rattle.plan_serve.proofs.HeldLaws.{flush_keeps, appends_kept}
 
-goes_kept : (setup : Setup) (start here : State) (before p q : Option (List ℕ)) (begun bytes : List ℕ) → Keeps p q →
+goes_kept : (setup : Setup) (start here : Situation) (before p q : Option (List ℕ)) (begun bytes : List ℕ) → Keeps p q →
     Goes setup start before here begun bytes p → Goes setup start before here begun bytes q
 goes_kept setup start here before p q begun bytes kept h = record {
   lines = h.lines;
@@ -26,7 +26,7 @@ goes_kept setup start here before p q begun bytes kept h = record {
   given = appends_kept before p q h.text h.given kept;
 }
 
-quits_kept : (setup : Setup) (start : State) (before p q : Option (List ℕ)) (bytes : List ℕ) → Keeps p q →
+quits_kept : (setup : Setup) (start : Situation) (before p q : Option (List ℕ)) (bytes : List ℕ) → Keeps p q →
     Quits setup start before bytes p → Quits setup start before bytes q
 quits_kept setup start before p q bytes kept h = record {
   lines = h.lines;
@@ -40,7 +40,7 @@ quits_kept setup start before p q bytes kept h = record {
   given = appends_kept before p q h.text h.given kept;
 }
 
-module _ (setup : Setup) (start here : State) (before s p q : Option (List ℕ)) (begun bytes held left : List ℕ) where
+module _ (setup : Setup) (start here : Situation) (before s p q : Option (List ℕ)) (begun bytes held left : List ℕ) where
   -- all replies were given
   pub fed_given : {T : Type 0} (x : T) (flow : Flow) → Flushes {T = T} {E = Failed} p q held left (Ok x) →
       Feeds {E = Failed} setup start before here begun bytes [] (given_since s p held) (Ok flow) →
@@ -91,7 +91,7 @@ module _ (setup : Setup) (start here : State) (before s p q : Option (List ℕ))
   }
 
 -- what is held does not count where some is left
-pub fed_broken : (setup : Setup) (start : State) (before now : Option (List ℕ)) (bytes held : List ℕ) →
+pub fed_broken : (setup : Setup) (start : Situation) (before now : Option (List ℕ)) (bytes held : List ℕ) →
     Breaks setup start before bytes [] now → Breaks setup start before bytes held now
 fed_broken setup start before now bytes held h = record {
   lines = h.lines;
@@ -122,7 +122,7 @@ not_nothing begun n e size none =
     let k : length begun ≡ 0 = ap length none in omega arith
 
 -- what has begun is answered, where it is something
-pub finishes_fed : (setup : Setup) (start here : State) (before now : Option (List ℕ)) (begun kept bytes held : List ℕ)
+pub finishes_fed : (setup : Setup) (start here : Situation) (before now : Option (List ℕ)) (begun kept bytes held : List ℕ)
     (flow : Flow) → (begun ≡ [] → ⊥) →
     Feeds {E = Failed} setup start before here kept (bytes ++ 10 ∷ []) held now (Ok flow) →
     FinishesAt setup start before here begun bytes held now Done

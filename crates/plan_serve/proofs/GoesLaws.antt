@@ -3,9 +3,8 @@ use Rattle.std.proofs.Common.{◌≡◌, ◌≢◌, refl, sym, ◌∙◌, ap, su
 use Rattle.std.specs.Prelude.{IsTrue}
 use Rattle.std.specs.Io.KnownBytes.{Appends}
 use Rattle.std.proofs.lemmas.List.{length-take, length-drop, take-append-drop}
-use Rattle.eon_model.specs.Services.{State}
 use Rattle.eon_model.specs.Legal.{Setup}
-use Rattle.eon_model.specs.Run.{answer_text}
+use Rattle.eon_model.specs.Run.{Situation, answer_text}
 use Rattle.eon_outside.specs.declared.reading.Failed.{Failed}
 use Rattle.eon_outside.proofs.KnownBytesLaws.{appends_more}
 use Rattle.plan_serve.specs.declared.answering.Flow.{Flow}
@@ -27,7 +26,7 @@ appends_none (Some a) = sym (no_more a)
     no_more (b ∷ w) = ap (λ (v : List ℕ). b ∷ v) (no_more w)
 
 -- nothing was read yet
-pub goes_begin : (setup : Setup) (start : State) (before : Option (List ℕ)) (begun : List ℕ) → begun ≡ [] →
+pub goes_begin : (setup : Setup) (start : Situation) (before : Option (List ℕ)) (begun : List ℕ) → begun ≡ [] →
     Goes setup start before start begun [] before
 goes_begin setup start before begun none = record {
   lines = [];
@@ -42,7 +41,7 @@ goes_begin setup start before begun none = record {
 }
 
 -- no further line ends
-pub goes_rest : (setup : Setup) (start here : State) (before now : Option (List ℕ)) (begun new bytes more : List ℕ) →
+pub goes_rest : (setup : Setup) (start here : Situation) (before now : Option (List ℕ)) (begun new bytes more : List ℕ) →
     IsTrue (has_no_end more) → new ≡ take most_kept (begun ++ more) → Goes setup start before here begun bytes now →
     Goes setup start before here new (bytes ++ more) now
 goes_rest setup start here before now begun new bytes more part is h = record {
@@ -59,7 +58,7 @@ goes_rest setup start here before now begun new bytes more part is h = record {
 
 -- ---- a line ends
 
-module _ (setup : Setup) (start here new : State) (before p q : Option (List ℕ)) (begun bytes part more : List ℕ)
+module _ (setup : Setup) (start here new : Situation) (before p q : Option (List ℕ)) (begun bytes part more : List ℕ)
     (unended : IsTrue (has_no_end part)) (h : Goes setup start before here begun bytes p) where
   -- the line is answered and is not `quit`
   pub line_goes : AnswersLine {E = Failed} setup here new (h.rest ++ part) p q (Ok On) →
@@ -71,11 +70,11 @@ module _ (setup : Setup) (start here new : State) (before p q : Option (List ℕ
     unended = refl;
     kept = refl;
     none_quits = none_last h.lines (h.rest ++ part) h.none_quits k.ok.1;
-    text = h.text ++ answer_text setup here k.answer;
-    answered = subst (λ (s : State). AreAnswered setup start (h.lines ++ (h.rest ++ part) ∷ []) s
-        (h.text ++ answer_text setup here k.answer)) (sym k.state)
+    text = h.text ++ answer_text setup here.state k.answer;
+    answered = subst (λ (s : Situation). AreAnswered setup start (h.lines ++ (h.rest ++ part) ∷ []) s
+        (h.text ++ answer_text setup here.state k.answer)) (sym k.stands)
         (answered_more setup start here h.lines h.text (h.rest ++ part) k.missed k.answer h.none_quits h.answered k.has);
-    given = appends_more before p q h.text (answer_text setup here k.answer) h.given k.ok.0;
+    given = appends_more before p q h.text (answer_text setup here.state k.answer) h.given k.ok.0;
   }
 
   -- it is `quit`
@@ -87,11 +86,11 @@ module _ (setup : Setup) (start here new : State) (before p q : Option (List ℕ
     splits = splits_end bytes h.rest part more h.lines h.splits h.unended unended;
     here = _;
     quits = any_last h.lines (h.rest ++ part) k.ok.1;
-    text = h.text ++ answer_text setup here k.answer;
+    text = h.text ++ answer_text setup here.state k.answer;
     answered = answered_more setup start here h.lines h.text (h.rest ++ part) k.missed k.answer h.none_quits h.answered k.has;
     whole = answered_quit setup start here h.lines h.text (h.rest ++ part) k.missed k.answer h.none_quits h.answered k.has
         k.ok.1;
-    given = appends_more before p q h.text (answer_text setup here k.answer) h.given k.ok.0;
+    given = appends_more before p q h.text (answer_text setup here.state k.answer) h.given k.ok.0;
   }
 
   not_all : (n : ℕ) (text : List ℕ) → n < length text → drop n text ≢ []
@@ -103,7 +102,7 @@ module _ (setup : Setup) (start here new : State) (before p q : Option (List ℕ
   pub line_breaks : (e : Failed) → AnswersLine {E = Failed} setup here new (h.rest ++ part) p q (Err e) →
       Breaks setup start before (bytes ++ (part ++ 10 ∷ more)) [] q
   line_breaks e k =
-      let text = answer_text setup here k.answer in
+      let text = answer_text setup here.state k.answer in
       let n = k.err.0 in record {
         lines = h.lines ++ (h.rest ++ part) ∷ [];
         rest = more;
@@ -150,7 +149,7 @@ all_bytes bytes piece done rest at ends whole =
     (ap (λ (v : List ℕ). done ++ (take at rest ++ v)) (sym ends)
     ∙ ap (λ (v : List ℕ). done ++ v) (take-append-drop at rest) ∙ sym whole)
 
-module _ (setup same : Setup) (start here new : State) (before p q : Option (List ℕ))
+module _ (setup same : Setup) (start here new : Situation) (before p q : Option (List ℕ))
     (begun bytes piece done rest : List ℕ) (at : ℕ) (is : same ≡ setup) (unended : IsTrue (has_no_end (take at rest)))
     (h : Goes setup start before here begun (bytes ++ done) p) where
   abbrev Told : Result Flow Failed → Type 0
@@ -184,7 +183,7 @@ module _ (setup same : Setup) (start here new : State) (before p q : Option (Lis
       (line_breaks setup start here new before p q begun (bytes ++ done) (take at rest) (drop (at + 1) rest) unended h e
       (here_told (Err e) (Err e) refl told))
 
-pub loop_ends : (setup : Setup) (start here new : State) (before p q : Option (List ℕ))
+pub loop_ends : (setup : Setup) (start here new : Situation) (before p q : Option (List ℕ))
     (begun next bytes piece done rest : List ℕ) → q ≡ p → new ≡ here → piece ≡ done ++ rest →
     IsTrue (has_no_end rest) → next ≡ take most_kept (begun ++ rest) →
     Goes setup start before here begun (bytes ++ done) p → Goes setup start before new next (bytes ++ piece) q
@@ -192,10 +191,10 @@ loop_ends setup start here new before p q begun next bytes piece done rest kept 
     subst (λ (v : List ℕ). Goes setup start before new next v q)
     (append_assoc bytes done rest ∙ ap (λ (v : List ℕ). bytes ++ v) (sym whole))
     (subst (λ (v : Option (List ℕ)). Goes setup start before new next ((bytes ++ done) ++ rest) v) (sym kept)
-    (subst (λ (s : State). Goes setup start before s next ((bytes ++ done) ++ rest) p) (sym same)
+    (subst (λ (s : Situation). Goes setup start before s next ((bytes ++ done) ++ rest) p) (sym same)
     (goes_rest setup start here before p begun next (bytes ++ done) rest part is h)))
 
-pub loop_begins : (setup : Setup) (start here : State) (before p : Option (List ℕ)) (begun bytes : List ℕ) →
+pub loop_begins : (setup : Setup) (start here : Situation) (before p : Option (List ℕ)) (begun bytes : List ℕ) →
     Goes setup start before here begun bytes p → Goes setup start before here begun (bytes ++ []) p
 loop_begins setup start here before p begun bytes h =
     subst (λ (v : List ℕ). Goes setup start before here begun v p) (sym (no_more bytes)) h

@@ -6,6 +6,7 @@ use Rattle.std.specs.Io.KnownBytes.{Appends, Keeps}
 use Rattle.std.proofs.lemmas.List.{take-append-drop, length-replicate, length-drop}
 use Rattle.eon_model.specs.Legal.{Setup, Legal}
 use Rattle.eon_model.specs.Services.{State}
+use Rattle.eon_model.specs.Run.{situation}
 use Rattle.eon_model.proofs.LegalLaws.{Legal-from_parts}
 use Rattle.eon_model.specs.Modes.{network_limit}
 use Rattle.eon_outside.specs.Faults.{Standing, Stands, counted}
@@ -86,8 +87,8 @@ keeps_all (Some a) = refl
 
 -- the stream that is left is the file's
 pub stream_told : (P Q : List ℕ → Type 0) (setup : Setup) (left before now : Option (List ℕ)) (status : Status) →
-    ((stream : List ℕ) → P stream → Q stream) → AnswersStream P setup [] left before now status →
-    AnswersStream Q setup [] left before now status
+    ((stream : List ℕ) → P stream → Q stream) → AnswersStream P setup (situation [] None) left before now status →
+    AnswersStream Q setup (situation [] None) left before now status
 stream_told P Q setup left before now Done is h = record {
   read = h.read;
   rest = h.rest;
@@ -139,8 +140,8 @@ both_opened old mid new net commands p q =
 over_files : (commands : List ℕ) (before mid now : Outside) (status : Status) (setup : Setup) → mid.files ≡ before.files →
     mid.given ≡ before.given → DryStream commands mid now status setup → DryStream commands before now status setup
 over_files commands before mid now status setup files given h =
-    subst (λ (v : Option NamedFiles). AnswersStream (IsFile v commands) setup [] now.left before.given now.given status) files
-    (subst (λ (v : Option (List ℕ)). AnswersStream (IsFile mid.files commands) setup [] now.left v now.given status) given h)
+    subst (λ (v : Option NamedFiles). AnswersStream (IsFile v commands) setup (situation [] None) now.left before.given now.given status) files
+    (subst (λ (v : Option (List ℕ)). AnswersStream (IsFile mid.files commands) setup (situation [] None) now.left v now.given status) given h)
 
 module _ (setup : Setup) (net commands : List ℕ) (before mid now : Outside)
     (opened : mid.opened ≡ before.opened ++ net ∷ []) (reads : mid.read_faults ≡ before.read_faults)

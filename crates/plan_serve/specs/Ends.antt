@@ -1,14 +1,13 @@
 -- What a call of the planner read and wrote, for each status with which it ends.
 use Rattle.std.specs.Prelude.{◌≡◌, ◌≢◌, ◌⊎◌, ℕ, ◌≤◌, IsTrue, true, false, List, [], ◌∷◌, ◌++◌, length, take, Option, None, IfSome, All}
 use Rattle.std.specs.Io.KnownBytes.{Appends, Keeps}
-use Rattle.eon_model.specs.Services.{State}
 use Rattle.eon_model.specs.Legal.{Setup}
 use Rattle.eon_model.specs.Events.{Event}
 use Rattle.eon_model.specs.Modes.{stream_limit, is_long_stream}
 use Rattle.eon_model.specs.TopLines.{network_fault_line, network_long_line}
 use Rattle.eon_model.specs.Answers.{takes_memory}
 use Rattle.eon_model.specs.LineStream.{lines_of}
-use Rattle.eon_model.specs.Run.{Runs, BeginsRun, MissesOnly, states_of}
+use Rattle.eon_model.specs.Run.{Situation, situation, Runs, BeginsRun, MissesOnly, states_of}
 use Rattle.eon_model.specs.LawsOfRuns.{IsLegalAndSound}
 use Rattle.eon_outside.specs.Faults.{Standing, counted, with_fault}
 use Rattle.eon_outside.specs.Reading.{NamedFiles}
@@ -23,33 +22,33 @@ use Rattle.plan_serve.specs.Outside.{Outside, NoFault}
 
 -- ---- runs
 
--- The bytes given grew by the output of a run over these bytes, from this state on. Each missed line is that of a command
+-- The bytes given grew by the output of a run over these bytes, from where the planner stood. Each missed line is that of a command
 -- that takes memory. Every state of the run is legal, and sound.
-pub record Serves (setup : Setup) (start : State) (bytes : List ℕ) (before now : Option (List ℕ)) : Type 0 where
+pub record Serves (setup : Setup) (start : Situation) (bytes : List ℕ) (before now : Option (List ℕ)) : Type 0 where
   pub missed : List ℕ
   pub output : List ℕ
   pub changes : List Event
-  pub run : Runs Answers setup start None bytes missed output changes
+  pub run : Runs Answers setup start.state start.left bytes missed output changes
   pub only : MissesOnly takes_memory missed 1 (lines_of bytes)
-  pub sound : All (IsLegalAndSound setup) (states_of setup start run.answers)
+  pub sound : All (IsLegalAndSound setup) (states_of setup start.state run.answers)
   pub given : Appends before now output
 
 -- The bytes given grew by a front of the output of such a run. Its states up to there are legal, and sound.
-pub record Begins (setup : Setup) (start : State) (bytes : List ℕ) (before now : Option (List ℕ)) : Type 0 where
+pub record Begins (setup : Setup) (start : Situation) (bytes : List ℕ) (before now : Option (List ℕ)) : Type 0 where
   pub missed : List ℕ
   pub part : List ℕ
-  pub run : BeginsRun Answers setup start None bytes missed part
+  pub run : BeginsRun Answers setup start.state start.left bytes missed part
   pub only : MissesOnly takes_memory missed 1 (lines_of bytes)
-  pub sound : All (IsLegalAndSound setup) (states_of setup start run.answers)
+  pub sound : All (IsLegalAndSound setup) (states_of setup start.state run.answers)
   pub given : Appends before now part
 
 -- a run over these bytes has this text in front of its output, and more behind it
-pub record GoesOnBehind (setup : Setup) (start : State) (bytes part : List ℕ) : Type 0 where
+pub record GoesOnBehind (setup : Setup) (start : Situation) (bytes part : List ℕ) : Type 0 where
   pub missed : List ℕ
   pub rest : List ℕ
   pub changes : List Event
   pub more : rest ≢ []
-  pub run : Runs Answers setup start None bytes missed (part ++ rest) changes
+  pub run : Runs Answers setup start.state start.left bytes missed (part ++ rest) changes
 
 -- ---- streams
 
@@ -57,7 +56,7 @@ pub record GoesOnBehind (setup : Setup) (start : State) (bytes part : List ℕ) 
 
 -- The stream was read to its end, or a `quit` line ended in what was read, in the last piece of it. Each of its lines was
 -- answered, up to `quit`.
-pub record AnswersAll (IsStream : List ℕ → Type 0) (setup : Setup) (start : State) (left before now : Option (List ℕ))
+pub record AnswersAll (IsStream : List ℕ → Type 0) (setup : Setup) (start : Situation) (left before now : Option (List ℕ))
     : Type 0 where
   pub read : List ℕ
   pub rest : List ℕ
@@ -70,7 +69,7 @@ pub record AnswersAll (IsStream : List ℕ → Type 0) (setup : Setup) (start : 
   pub serves : Serves setup start (read ++ rest) before now
 
 -- The stream is too long. The lines that ended within its longest allowed front were answered.
-pub record StopsAtLong (IsStream : List ℕ → Type 0) (setup : Setup) (start : State) (before now : Option (List ℕ))
+pub record StopsAtLong (IsStream : List ℕ → Type 0) (setup : Setup) (start : Situation) (before now : Option (List ℕ))
     : Type 0 where
   pub stream : List ℕ
   pub told : IsStream stream
@@ -79,7 +78,7 @@ pub record StopsAtLong (IsStream : List ℕ → Type 0) (setup : Setup) (start :
   pub begins : Begins setup start stream before now
 
 -- Reading failed in the stream. No `quit` line ended in what was read before, and the lines that did were answered.
-pub record StopsReading (IsStream : List ℕ → Type 0) (setup : Setup) (start : State)
+pub record StopsReading (IsStream : List ℕ → Type 0) (setup : Setup) (start : Situation)
     (left before now : Option (List ℕ)) : Type 0 where
   pub read : List ℕ
   pub rest : List ℕ
@@ -91,7 +90,7 @@ pub record StopsReading (IsStream : List ℕ → Type 0) (setup : Setup) (start 
   pub begins : Begins setup start (read ++ rest) before now
 
 -- Writing failed. Where the bytes given are told, they are not all of the output.
-pub record StopsWriting (IsStream : List ℕ → Type 0) (setup : Setup) (start : State) (before now : Option (List ℕ))
+pub record StopsWriting (IsStream : List ℕ → Type 0) (setup : Setup) (start : Situation) (before now : Option (List ℕ))
     : Type 0 where
   pub stream : List ℕ
   pub told : IsStream stream
@@ -99,7 +98,7 @@ pub record StopsWriting (IsStream : List ℕ → Type 0) (setup : Setup) (start 
   pub early : IfSome before (λ _. GoesOnBehind setup start stream begins.part)
 
 -- how the answers to a stream end
-abbrev pub AnswersStream : (List ℕ → Type 0) → Setup → State → Option (List ℕ) → Option (List ℕ) → Option (List ℕ)
+abbrev pub AnswersStream : (List ℕ → Type 0) → Setup → Situation → Option (List ℕ) → Option (List ℕ) → Option (List ℕ)
     → Status → Type 0
 AnswersStream IsStream setup start left before now Done = AnswersAll IsStream setup start left before now
 AnswersStream IsStream setup start left before now ReadFault = StopsReading IsStream setup start left before now
@@ -157,7 +156,7 @@ OverNetwork files net P = (setup : Setup) × IsAcceptedFile files net setup × P
 -- how the answers to the stream end over a setup, with no service at first
 abbrev pub DryStream : List ℕ → Outside → Outside → Status → Setup → Type 0
 DryStream commands before now status setup =
-    AnswersStream (IsFile before.files commands) setup [] now.left before.given now.given status
+    AnswersStream (IsFile before.files commands) setup (situation [] None) now.left before.given now.given status
 
 -- Where reading failed: in the network, at the opening of the stream, or in the stream.
 pub data FaultsReading (net commands : List ℕ) (before now : Outside) : Type 0 where

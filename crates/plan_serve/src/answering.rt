@@ -1,6 +1,7 @@
 //! What is said to one line.
-ghost use Rattle.std.specs.Prelude.{◌≡◌, IsTrue};
+ghost use Rattle.std.specs.Prelude.{◌≡◌, None, IsTrue};
 ghost use Rattle.eon_model.specs.CommandText.{is_command};
+ghost use Rattle.eon_model.specs.Run.{situation};
 ghost use Rattle.eon_outside.specs.Faults.{Stands};
 ghost use Rattle.command_text.specs.Told.{told};
 ghost use Rattle.plan_serve.specs.Answering.{Decides, DecidesCommand, GoesOn, AnswersLine};
@@ -26,7 +27,7 @@ pub(crate) enum Flow {
 fn reply_to_command(core: &mut Core, command: &Command) -> Reply
     requires in_range { IsTrue (is_command (told command.now)) }
     ensures setup { core.new.setup ≡ core.old.setup }
-    ensures decides { DecidesCommand core.old.setup core.old.state core.new.state (told command.now) result }
+    ensures decides { DecidesCommand core.old.setup (situation core.old.state None) (situation core.new.state None) (told command.now) result }
 {
     match core.step(command) {
         Ok(Decision::Say(reply)) => reply,
@@ -41,7 +42,7 @@ fn reply_to_command(core: &mut Core, command: &Command) -> Reply
 /// The reply to a line. Its change is made.
 fn reply_to(core: &mut Core, line: &[u8]) -> Reply
     ensures setup { core.new.setup ≡ core.old.setup }
-    ensures decides { Decides core.old.setup core.old.state core.new.state line.now result }
+    ensures decides { Decides core.old.setup (situation core.old.state None) (situation core.new.state None) line.now result }
 {
     if line.len() > LONGEST_LINE {
         return Reply::Line {
@@ -69,7 +70,7 @@ fn flow_behind(line: &[u8]) -> Flow
 /// part of the reply was given, and not all; the change stands.
 pub(crate) fn answer<K: Sink>(core: &mut Core, line: &[u8], out: &mut K) -> Result<Flow, Failed>
     ensures setup { core.new.setup ≡ core.old.setup }
-    ensures told { AnswersLine core.old.setup core.old.state core.new.state line.now (K.given out.old) (K.given out.new) result }
+    ensures told { AnswersLine core.old.setup (situation core.old.state None) (situation core.new.state None) line.now (K.given out.old) (K.given out.new) result }
     ensures stands { Stands (K.standing out.old) (K.standing out.new) result }
 {
     let reply = reply_to(core, line);

@@ -1,5 +1,5 @@
 //! A run over a stream of command lines, which comes in pieces.
-ghost use Rattle.std.specs.Prelude.{◌≡◌, ◌≢◌, ℕ, ◌+◌, ◌∷◌, ◌++◌, ◌<◌, ◌≤◌, List, [], Option, IfOk, IfSome, IsNone, IsTrue, OnOk, length, take, drop, vec_len, vec_capacity};
+ghost use Rattle.std.specs.Prelude.{◌≡◌, ◌≢◌, ℕ, ◌+◌, ◌∷◌, ◌++◌, ◌<◌, ◌≤◌, List, [], Option, None, IfOk, IfSome, IsNone, IsTrue, OnOk, length, take, drop, vec_len, vec_capacity};
 ghost use Rattle.eon_outside.specs.Faults.{Stands};
 ghost use Rattle.eon_outside.specs.Held.{standing_over, given_since};
 ghost use Rattle.plan_serve.specs.Lines.{has_no_end, most_kept, most_read};
@@ -36,7 +36,7 @@ pub(crate) struct Session {
 }
 
 impl Session {
-    ghost use Rattle.eon_model.specs.Services.{State};
+    ghost use Rattle.eon_model.specs.Run.{Situation, situation};
     ghost use Rattle.eon_model.specs.Legal.{Legal};
     ghost use Rattle.eon_model.specs.NetworkText.{is_setup};
     ghost use Rattle.plan_serve.specs.Answering.{AnswersLine};
@@ -71,7 +71,7 @@ impl Session {
     fn end_line<K: Sink>(&mut self, part: &[u8], out: &mut K) -> Result<Flow, Failed>
         ensures setup { self.new.core.setup ≡ self.old.core.setup }
         ensures begun { self.new.begun.items ≡ [] }
-        ensures told { (fragment : List ℕ) → self.old.begun.items ≡ take most_kept fragment → AnswersLine self.old.core.setup self.old.core.state self.new.core.state (fragment ++ part.now) (K.given out.old) (K.given out.new) result }
+        ensures told { (fragment : List ℕ) → self.old.begun.items ≡ take most_kept fragment → AnswersLine self.old.core.setup (situation self.old.core.state None) (situation self.new.core.state None) (fragment ++ part.now) (K.given out.old) (K.given out.new) result }
         ensures stands { Stands (K.standing out.old) (K.standing out.new) result }
     {
         if self.begun.is_empty() {
@@ -86,8 +86,8 @@ impl Session {
     /// Answers the lines that end in this piece, up to `quit`, and keeps the begin of the line behind them.
     fn answer_lines<K: Sink>(&mut self, piece: &[u8], out: &mut K) -> Result<Flow, Failed>
         ensures setup { self.new.core.setup ≡ self.old.core.setup }
-        ensures fed { (start : State) (before : Option (List ℕ)) (bytes : List ℕ) → Goes self.old.core.setup start before self.old.core.state self.old.begun.items bytes (K.given out.old)
-            → Feeds self.old.core.setup start before self.new.core.state self.new.begun.items (bytes ++ piece.now) [] (K.given out.new) result }
+        ensures fed { (start : Situation) (before : Option (List ℕ)) (bytes : List ℕ) → Goes self.old.core.setup start before (situation self.old.core.state None) self.old.begun.items bytes (K.given out.old)
+            → Feeds self.old.core.setup start before (situation self.new.core.state None) self.new.begun.items (bytes ++ piece.now) [] (K.given out.new) result }
         ensures stands { Stands (K.standing out.old) (K.standing out.new) result }
     {
         let mut rest = piece;
@@ -110,8 +110,8 @@ impl Session {
     ) -> Result<Flow, Failed>
         ensures setup { self.new.core.setup ≡ self.old.core.setup }
         ensures none_held { OnOk result (out.new.held.now.items ≡ []) }
-        ensures fed { (start : State) (before : Option (List ℕ)) (bytes : List ℕ) → Goes self.old.core.setup start before self.old.core.state self.old.begun.items bytes (given_since S.bytes (K.given out.old.out.now) out.old.held.now.items)
-            → Feeds self.old.core.setup start before self.new.core.state self.new.begun.items (bytes ++ piece.now) out.new.held.now.items (given_since S.bytes (K.given out.new.out.now) out.new.held.now.items) result }
+        ensures fed { (start : Situation) (before : Option (List ℕ)) (bytes : List ℕ) → Goes self.old.core.setup start before (situation self.old.core.state None) self.old.begun.items bytes (given_since S.bytes (K.given out.old.out.now) out.old.held.now.items)
+            → Feeds self.old.core.setup start before (situation self.new.core.state None) self.new.begun.items (bytes ++ piece.now) out.new.held.now.items (given_since S.bytes (K.given out.new.out.now) out.new.held.now.items) result }
         ensures stands { Stands (standing_over out.old.out.ghost_name (K.standing out.old.out.now)) (standing_over out.new.out.ghost_name (K.standing out.new.out.now)) result }
     {
         match self.answer_lines(piece, out) {
@@ -127,8 +127,8 @@ impl Session {
     fn finish<K: Sink, S: Start>(&mut self, out: &mut Buffered<'_, K, S>) -> Status
         requires none_held { out.old.held.now.items ≡ [] }
         ensures setup { self.new.core.setup ≡ self.old.core.setup }
-        ensures ended { (start : State) (before : Option (List ℕ)) (bytes : List ℕ) → Goes self.old.core.setup start before self.old.core.state self.old.begun.items bytes (given_since S.bytes (K.given out.old.out.now) out.old.held.now.items)
-            → FinishesAt self.old.core.setup start before self.new.core.state self.old.begun.items bytes out.new.held.now.items (given_since S.bytes (K.given out.new.out.now) out.new.held.now.items) result }
+        ensures ended { (start : Situation) (before : Option (List ℕ)) (bytes : List ℕ) → Goes self.old.core.setup start before (situation self.old.core.state None) self.old.begun.items bytes (given_since S.bytes (K.given out.old.out.now) out.old.held.now.items)
+            → FinishesAt self.old.core.setup start before (situation self.new.core.state None) self.old.begun.items bytes out.new.held.now.items (given_since S.bytes (K.given out.new.out.now) out.new.held.now.items) result }
         ensures stands { StandsAt result (standing_over out.old.out.ghost_name (K.standing out.old.out.now)) (standing_over out.new.out.ghost_name (K.standing out.new.out.now)) }
         ensures none_held { result ≡ Status.Done → out.new.held.now.items ≡ [] }
         ensures no_read { result ≢ Status.ReadFault }
@@ -157,7 +157,7 @@ impl Session {
         requires in_range { IsTrue (is_setup self.old.core.setup) }
         requires legal { Legal self.old.core.setup self.old.core.state }
         ensures sink { out.new.out.ghost_name ≡ out.old.out.ghost_name }
-        ensures answered { AnswersStream (IsLeft (H.left shelf.old)) self.old.core.setup self.old.core.state (H.left shelf.new) (K.given out.old.out.now) (K.given out.new.out.now) result }
+        ensures answered { AnswersStream (IsLeft (H.left shelf.old)) self.old.core.setup (situation self.old.core.state None) (H.left shelf.new) (K.given out.old.out.now) (K.given out.new.out.now) result }
         ensures files { H.files shelf.new ≡ H.files shelf.old }
         ensures opened { H.opened shelf.new ≡ H.opened shelf.old }
         ensures reads { CountsReads result (H.faults shelf.old) (H.faults shelf.new) }

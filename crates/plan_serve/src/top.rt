@@ -1,9 +1,10 @@
 //! The top call.
-ghost use Rattle.std.specs.Prelude.{◌≡◌, ◌≢◌, ◌⊎◌, ◌<◌, ◌≤◌, [], IfOk, IsTrue, length, string_bytes, map};
+ghost use Rattle.std.specs.Prelude.{◌≡◌, ◌≢◌, ◌⊎◌, ◌<◌, ◌≤◌, [], None, IfOk, IsTrue, length, string_bytes, map};
 ghost use Rattle.eon_model.specs.Disk.{LeavesOnly};
 ghost use Rattle.eon_model.specs.Legal.{Legal};
 ghost use Rattle.eon_model.specs.NetworkText.{is_setup};
 ghost use Rattle.eon_model.specs.Modes.{task_of};
+ghost use Rattle.eon_model.specs.Run.{situation};
 ghost use Rattle.eon_outside.specs.Faults.{counted};
 ghost use Rattle.eon_outside.specs.Reading.{IsThere};
 ghost use Rattle.plan_serve.specs.Files.{IsLeft};
@@ -168,7 +169,7 @@ fn answer_open<H: Shelf, K: Sink, S: Start>(
     requires from { S.bytes ≡ K.given out.old }
     requires in_range { IsTrue (is_setup session.old.core.setup) }
     requires legal { Legal session.old.core.setup session.old.core.state }
-    ensures answered { AnswersStream (IsLeft (H.left shelf.old)) session.old.core.setup session.old.core.state (H.left shelf.new) (K.given out.old) (K.given out.new) result }
+    ensures answered { AnswersStream (IsLeft (H.left shelf.old)) session.old.core.setup (situation session.old.core.state None) (H.left shelf.new) (K.given out.old) (K.given out.new) result }
     ensures files { H.files shelf.new ≡ H.files shelf.old }
     ensures opened { H.opened shelf.new ≡ H.opened shelf.old }
     ensures reads { CountsReads result (H.faults shelf.old) (H.faults shelf.new) }

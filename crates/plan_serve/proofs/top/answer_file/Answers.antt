@@ -1,5 +1,6 @@
-use Rattle.std.proofs.Common.{◌∙◌, subst, refl, inl, ℕ}
+use Rattle.std.proofs.Common.{◌∙◌, subst, refl, inl, ℕ, None}
 use Rattle.eon_model.specs.Services.{State}
+use Rattle.eon_model.specs.Run.{situation}
 use Rattle.eon_outside.specs.declared.reading.Failed.{Failed}
 use Rattle.eon_outside.specs.WholeFile.{IsFile}
 use Rattle.plan_serve.specs.Files.{IsLeft}
@@ -26,7 +27,7 @@ returns-in-Ok-open-clause-ends g c =
     let commands = c.args.commands.now in
     let status = c.answer_open.result in
     let files = g.H.Shelf.files old in
-    let answered = subst (λ (v : State). AnswersStream (IsLeft (g.H.Shelf.left open_now)) setup v (g.H.Shelf.left new)
+    let answered = subst (λ (v : State). AnswersStream (IsLeft (g.H.Shelf.left open_now)) setup (situation v None) (g.H.Shelf.left new)
     (g.K.Sink.given out) (g.K.Sink.given out_new) status) c.requires.at_start c.answer_open.ensures.answered in
     stream_ends setup commands
     (outside files (g.H.Shelf.opened old) (g.H.Shelf.left old) (g.H.Shelf.faults old) (g.K.Sink.given out) (g.K.Sink.standing out))

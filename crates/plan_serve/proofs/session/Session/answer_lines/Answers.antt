@@ -1,5 +1,6 @@
-use Rattle.std.proofs.Common.{refl, sym, ◌∙◌, ap, ℕ, ◌+◌, List, [], ◌∷◌, ◌++◌, take, arith}
+use Rattle.std.proofs.Common.{refl, sym, ◌∙◌, ap, ℕ, ◌+◌, List, [], ◌∷◌, ◌++◌, take, None, arith}
 use Rattle.std.proofs.lemmas.List.{take_rest}
+use Rattle.eon_model.specs.Run.{situation}
 use Rattle.plan_core.specs.Seen.{CoreSeen}
 use Rattle.plan_serve.proofs.GoesLaws.{rest_goes, rest_shorter, loop_begins, loop_goes, loop_quits, loop_breaks, loop_ends}
 use Rattle.plan_serve.proofs.session.Session.answer_lines.Goals as goal
@@ -50,5 +51,5 @@ pub returns-clause-fed : goal.returns-clause-fed
 returns-clause-fed g c = λ start before bytes h.
     let so_far = c.loop-at.invariant in
     loop_ends _ start _ _ before _ _ _ _ bytes c.args.piece.now so_far.done c.loop-at.rest.now refl
-    (ap (λ (m : CoreSeen). m.state) c.keep.ensures.core) so_far.whole (c.in_default.ensures.none refl)
+    (ap (λ (m : CoreSeen). situation m.state None) c.keep.ensures.core) so_far.whole (c.in_default.ensures.none refl)
     c.keep.ensures.begun (so_far.goes start before bytes h)

@@ -1,6 +1,7 @@
-use Rattle.std.proofs.Common.{◌≡◌, refl, sym, ◌∙◌, ap, subst, ℕ, ◌-◌, ◌<◌, ◌≤◌, List, ◌++◌, length, take, drop, arith}
+use Rattle.std.proofs.Common.{◌≡◌, refl, sym, ◌∙◌, ap, subst, ℕ, ◌-◌, ◌<◌, ◌≤◌, List, ◌++◌, length, take, drop, None, arith}
 use Rattle.std.specs.Io.KnownBytes.{Consumes}
 use Rattle.eon_model.specs.Modes.{stream_limit}
+use Rattle.eon_model.specs.Run.{situation}
 use Rattle.plan_serve.proofs.EndLaws.{going_begin, going_on, stops_reading, stops_at_long, stops_writing, quits_read, finishes, cut_at, finish_told, fed_on, fed_ended, fed_breaks, counts_none}
 use Rattle.plan_serve.proofs.GoesLaws.{goes_begin}
 use Rattle.plan_serve.proofs.HeldLaws.{given_all, below}
@@ -38,7 +39,7 @@ returns-then-count-eq0-clause-answered g c =
     (subst (λ (n : ℕ). Consumes (g.H.Shelf.left c.loop-count.shelf) (g.H.Shelf.left c.read.new.self) (take n buffer))
     c.if-count-eq0.true c.in-Ok.ensures.bytes.0)
     (c.in-Ok.ensures.bytes.1 c.if-count-eq0.true some)
-    c.finish.new.self.core.state c.finish.new.out.held.now.items _ c.finish.result
+    (situation c.finish.new.self.core.state None) c.finish.new.out.held.now.items _ c.finish.result
     (λ done text given. given_all g.S.Start.bytes _ _ c.args.out.now.held.now.items c.finish.new.out.held.now.items text
     c.requires.from c.requires.none_held (c.finish.ensures.none_held done) given)
     (λ front left text is more given. below g.S.Start.bytes _ _ c.args.out.now.held.now.items c.finish.new.out.held.now.items front
@@ -63,7 +64,7 @@ returns-then-allowed-count-clause-answered g c =
     let is : some ≡ allowed = omega (arith, c.min.ensures, c.if-allowed-count.true) in
     let low : some ≤ count = omega (arith, c.min.ensures) in
     let cut = cut_at buffer some count low c.in-Ok.ensures.bound.0 in
-    let k = fed_on _ _ _ _ c.feed.new.self.core.state _ _ _ _ so_far.going.taken c.feed.new.out.held.now.items so_far.setup
+    let k = fed_on _ _ _ _ (situation c.feed.new.self.core.state None) _ _ _ _ so_far.going.taken c.feed.new.out.held.now.items so_far.setup
     so_far.going.goes c.feed.new.self.begun.items (take some buffer)
     c.in-Ok-On.field-0 c.in-Ok-On.field-0-is (c.in-Ok-On.ensures.fed _ _ so_far.going.taken) in
     stops_at_long _ _ _ c.requires.in_range c.requires.legal _ _ _ _ _ _ _
@@ -83,7 +84,7 @@ loop-count-preserved g c =
     let some = c.min.result in
     let is : some ≡ count = omega (arith, c.min.ensures, c.if-allowed-count.false) in
     let cut = cut_at buffer some count (omega (arith, is)) c.in-Ok.ensures.bound.0 in
-    let k = fed_on _ _ _ _ c.feed.new.self.core.state _ _ _ _ so_far.going.taken c.feed.new.out.held.now.items so_far.setup
+    let k = fed_on _ _ _ _ (situation c.feed.new.self.core.state None) _ _ _ _ so_far.going.taken c.feed.new.out.held.now.items so_far.setup
     so_far.going.goes c.feed.new.self.begun.items (take some buffer)
     c.in-Ok-On.field-0 c.in-Ok-On.field-0-is (c.in-Ok-On.ensures.fed _ _ so_far.going.taken) in record {
       within = omega (arith, c.if-allowed-count.false, so_far.within);
@@ -110,7 +111,7 @@ returns-in-Ok-Ended-clause-answered g c =
     let within = c.in-Ok.ensures.bound.0 in
     let cut = cut_at buffer some count low within in
     let all : length (take some buffer ++ drop some (take count buffer)) ≡ count = ap length cut.is ∙ cut.all in
-    let k = fed_ended _ _ _ _ c.feed.new.self.core.state _ _ _ _ so_far.going.taken c.feed.new.out.held.now.items so_far.setup
+    let k = fed_ended _ _ _ _ (situation c.feed.new.self.core.state None) _ _ _ _ so_far.going.taken c.feed.new.out.held.now.items so_far.setup
     so_far.going.goes c.feed.new.self.begun.items (take some buffer)
     c.in-Ok-Ended.field-0 c.in-Ok-Ended.field-0-is (c.in-Ok-Ended.ensures.fed _ _ so_far.going.taken) in
     quits_read _ _ _ c.requires.in_range c.requires.legal _ _ _ _ _ _ _
@@ -131,7 +132,7 @@ returns-in-Err-feed-clause-answered g c =
     let some = c.min.result in
     let low : some ≤ count = omega (arith, c.min.ensures) in
     let cut = cut_at buffer some count low c.in-Ok.ensures.bound.0 in
-    let k = fed_breaks _ _ _ _ c.feed.new.self.core.state _ _ _ _ so_far.going.taken c.feed.new.out.held.now.items so_far.setup
+    let k = fed_breaks _ _ _ _ (situation c.feed.new.self.core.state None) _ _ _ _ so_far.going.taken c.feed.new.out.held.now.items so_far.setup
     so_far.going.goes c.feed.new.self.begun.items (take some buffer)
     c.in-Err-feed.field-0 (c.in-Err-feed.ensures.fed _ _ so_far.going.taken) in
     stops_writing _ _ _ c.requires.in_range c.requires.legal _ _ _ _ _ _ _

@@ -1,6 +1,7 @@
-use Rattle.std.proofs.Common.{◌≡◌, ◌≤◌, ◌-◌, []}
+use Rattle.std.proofs.Common.{◌≡◌, ◌≤◌, ◌-◌, [], None}
 use Rattle.std.specs.Prelude.{IsTrue}
 use Rattle.eon_model.specs.Modes.{stream_limit}
+use Rattle.eon_model.specs.Run.{situation}
 use Rattle.eon_outside.specs.Held.{standing_over, given_since}
 use Rattle.plan_serve.proofs.EndLaws.{Going}
 use Rattle.plan_serve.proofs.session.Session.answer_stream.Given as goal
@@ -9,10 +10,10 @@ abbrev pub invariant-loop-count : goal.invariant-loop-count
 invariant-loop-count g l = record {
   within : l.taken ≤ stream_limit;
   setup : l.self.core.setup ≡ l.initial.self.core.setup;
-  going : Going l.initial.self.core.setup l.initial.self.core.state (g.H.Shelf.left l.initial.shelf)
+  going : Going l.initial.self.core.setup (situation l.initial.self.core.state None) (g.H.Shelf.left l.initial.shelf)
       (g.H.Shelf.left l.shelf)
       (given_since g.S.Start.bytes (g.K.Sink.given l.initial.out.out.now) l.initial.out.held.now.items)
-      l.self.core.state l.self.begun.items l.taken
+      (situation l.self.core.state None) l.self.begun.items l.taken
       (given_since g.S.Start.bytes (g.K.Sink.given l.out.out.now) l.out.held.now.items);
   held : l.out.held.now.items ≡ [];
   files : g.H.Shelf.files l.shelf ≡ g.H.Shelf.files l.initial.shelf;

@@ -1,6 +1,7 @@
-use Rattle.std.proofs.Common.{◌≡◌, sym, ◌∙◌, subst, length, arith}
+use Rattle.std.proofs.Common.{◌≡◌, sym, ◌∙◌, subst, length, None, arith}
 use Rattle.std.proofs.lemmas.Bool.{eqb-true}
 use Rattle.eon_outside.specs.declared.reading.Failed.{Failed}
+use Rattle.eon_model.specs.Run.{situation}
 use Rattle.plan_core.specs.Seen.{CoreSeen}
 use Rattle.plan_serve.specs.Answering.{AnswersLine}
 use Rattle.plan_serve.proofs.KeptLaws.{no_length}
@@ -19,7 +20,7 @@ returns-clause-told g c = λ fragment kept.
     answers_kept {E = Failed} _ _ _ c.args.self.now.begun.items fragment c.args.part.now
     c.as_slice.result.now _ _ c.answer-answered.result kept
     (c.as_slice.ensures.value ∙ c.keep.ensures.begun)
-    (subst (λ (m : CoreSeen). AnswersLine {E = Failed} m.setup m.state
-    c.answer-answered.new.core.state c.as_slice.result.now
+    (subst (λ (m : CoreSeen). AnswersLine {E = Failed} m.setup (situation m.state None)
+    (situation c.answer-answered.new.core.state None) c.as_slice.result.now
     (g.K.Sink.given c.args.out.now) (g.K.Sink.given c.answer-answered.new.out) c.answer-answered.result)
     c.keep.ensures.core c.answer-answered.ensures.told)
