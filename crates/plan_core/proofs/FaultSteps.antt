@@ -1,7 +1,7 @@
 -- Faults of the paths that are asked for, path by path.
-use Rattle.std.proofs.Common.{◌≡◌, refl, sym, ◌∙◌, ap, ℕ, ℤ, ◌≤◌, Bool, true, false, cond, ◌&&◌, not, List, [], ◌∷◌, find, Option, Some, None}
+use Rattle.std.proofs.Common.{◌≡◌, refl, sym, ◌∙◌, ap, ℕ, ℤ, ◌≤◌, Bool, true, false, cond, not, List, [], ◌∷◌, find, Option, Some, None}
 use Rattle.std.specs.Prelude.{is_some}
-use Rattle.std.specs.Option.{option_map}
+use Rattle.std.specs.Option.{option_map, option_or, option_and_then, option_to_list, unwrap_or}
 use Rattle.std.specs.Bool.{then_some}
 use Rattle.std.specs.Cmp.{nat_eq_equiv}
 use Rattle.std.proofs.lemmas.Bool.{both_ways}
@@ -10,12 +10,13 @@ use Rattle.eon_model.specs.declared.Part.TheVariants.{Work, Backup}
 use Rattle.eon_model.specs.Grid.{Slot, Units, Band, units_of, lies_in_band, is_band, is_slot}
 use Rattle.eon_model.specs.Network.{Network}
 use Rattle.eon_model.specs.Route.{Route, route_of, walks}
+use Rattle.eon_model.specs.Services.{Path, Leg}
 use Rattle.eon_model.specs.Legal.{Setup, need_of, is_exactly}
 use Rattle.eon_model.specs.NetworkText.{is_setup}
 use Rattle.eon_model.specs.Commands.{Demand, PathWords}
 use Rattle.eon_model.specs.CommandText.{is_rate}
 use Rattle.eon_model.specs.Replies.{Reply}
-use Rattle.eon_model.specs.Step.{AskedPath, asked, path_asked, fault_in, node_numbered, fibres_numbered, walks_between, reaches_end, is_in_band}
+use Rattle.eon_model.specs.Step.{AskedPath, asked, asked_leg, fault_in, ◌when◌, risk_between, node_numbered, fibres_numbered, walks_between, reaches_end, is_in_band}
 use Rattle.eon_model.proofs.WidthLaws.{need-positive}
 use Rattle.admission.proofs.SpanLaws.{slot_in}
 use Rattle.flex_grid.specs.Makes.{slot_of}
@@ -23,7 +24,10 @@ use Rattle.net_graph.specs.Walks.{route_from}
 use Rattle.command_text.specs.declared.command.BackWords.{BackWords}
 use Rattle.command_text.specs.Told.{told_backs, told_path}
 use Rattle.push_rule.proofs.HullLaws.{none-by}
-use Rattle.plan_core.specs.Placing.{paths_asked, path_if_walks, path_fault, slot_in_band, slot_if_fits}
+use Rattle.plan_core.specs.declared.demand.AskedPaths.{AskedPaths}
+use Rattle.plan_core.specs.declared.demand.SizedPath.{SizedPath}
+use Rattle.plan_core.specs.declared.demand.SizedPaths.{SizedPaths}
+use Rattle.plan_core.specs.Placing.{paths_asked, path_if_walks, path_fault, slot_in_band, first_fault, reach_fault_of, reach_fault, risk_fault, band_fault, fault_of, sized, sized_paths, sized_risk, path_of, leg_of, band_fault_of}
 
 -- ---- one path
 
@@ -152,13 +156,127 @@ slot-none band n m ok wide none =
         (slot_in band (record { n = n; m = m }) ok wide e))
     out false e = e
 
-some-cond : (a x : Bool) (s : Slot) → a ≡ true → is_some (cond (a && x) (Some s) None) ≡ x
-some-cond true true s h = refl
-some-cond true false s h = refl
-some-cond false x s h = absurd (both_ways false refl h)
+-- ---- one path within reach, and in the band
 
-pub fits-some : (setup : Setup) (d : Demand) (p : AskedPath) (slot : Option Slot) (b : Bool) →
-    slot ≡ slot_if_fits setup d p → reaches_end setup d p ≡ true → is_some slot ≡ b → b ≡ is_in_band setup d p
-fits-some setup d p slot b is reach some =
-    sym some ∙ ap is_some is
-    ∙ some-cond (reaches_end setup d p) (is_in_band setup d p) (path_asked setup d p).slot reach
+pub reach-some : (setup : Setup) (d : Demand) (p : AskedPath) (m : ℕ) → need_of setup d.rate p.route.km ≡ Some m →
+    (None ≡ reach_fault_of setup d p) × (record { path = p; m = m } ≡ sized setup d p)
+reach-some setup d p m e = (
+  sym (ap (λ o. Reply.Reach p.part when not (is_some o)) e),
+  sym (ap (λ (o : Option ℕ). let s : SizedPath = record { path = p; m = unwrap_or o 0 } in s) e),
+)
+
+pub reach-none : (setup : Setup) (d : Demand) (p : AskedPath) → need_of setup d.rate p.route.km ≡ None →
+    Some (Reply.Reach p.part) ≡ reach_fault_of setup d p
+reach-none setup d p e = sym (ap (λ o. Reply.Reach p.part when not (is_some o)) e)
+
+slot-by : (b : Bool) (s : Slot) (r : Reply) (o : Option Slot) → o ≡ cond b (Some s) None →
+    ((slot : Slot) → o ≡ Some slot → (None ≡ then_some (not b) r) × (slot ≡ s))
+    × (o ≡ None → Some r ≡ then_some (not b) r)
+slot-by true s r o e = (λ slot is. (refl, let same : Some s ≡ Some slot = sym e ∙ is in cc), λ is. absurd (some-no s (sym e ∙ is)))
+  where
+    some-no : (s : Slot) → Some s ≡ None → ⊥
+    some-no s h = cc
+slot-by false s r o e = (λ slot is. absurd (no-slot slot (sym e ∙ is)), λ is. refl)
+  where
+    no-slot : (s : Slot) → None ≡ Some s → ⊥
+    no-slot s h = cc
+
+-- a slot in the band, and one that is not there
+pub band-some : (band : Band) (s : SizedPath) (o : Option Slot) (slot : Slot) → o ≡ slot_in_band band s.path.n s.m →
+    o ≡ Some slot → (None ≡ band_fault_of band s) × (record { route = s.path.route; slot = slot } ≡ path_of s)
+band-some band s o slot e is =
+    let t : Slot = record { n = s.path.n; m = s.m } in
+    let r = (slot-by (lies_in_band band (units_of t)) t (Reply.Band s.path.part) o e).0 slot is in
+    (r.0, ap (λ (v : Slot). let p : Path = record { route = s.path.route; slot = v } in p) r.1)
+
+pub band-none : (band : Band) (s : SizedPath) (o : Option Slot) → o ≡ slot_in_band band s.path.n s.m → o ≡ None →
+    Some (Reply.Band s.path.part) ≡ band_fault_of band s
+band-none band s o e is =
+    let t : Slot = record { n = s.path.n; m = s.m } in
+    (slot-by (lies_in_band band (units_of t)) t (Reply.Band s.path.part) o e).1 is
+
+-- ---- the first of the two paths with a fault
+
+module _ {P : Type 0} (fault : P → Option Reply) (work : P) (back : Option P) where
+  pub first-work : (r : Reply) → Some r ≡ fault work → Some r ≡ first_fault fault work back
+  first-work r h = ap (λ o. option_or o (option_and_then fault back)) h
+
+  pub first-back : (o : Option Reply) → None ≡ fault work → o ≡ option_and_then fault back → o ≡ first_fault fault work back
+  first-back o free h = h ∙ ap (λ x. option_or x (option_and_then fault back)) free
+
+two-faults : (reply : Part → Reply) (f : AskedPath → Bool) (w : AskedPath) (back : Option AskedPath) →
+    first_fault (λ p. reply p.part when f p) w back ≡ fault_in reply f (w ∷ option_to_list back)
+two-faults reply f w back = by (f w) back
+  where
+    last : (c : AskedPath) (y : Bool) → then_some y (reply c.part)
+        ≡ option_map (λ (p : AskedPath). reply p.part) (cond y (Some c) None)
+    last c true = refl
+    last c false = refl
+
+    by : (x : Bool) (b : Option AskedPath) →
+        option_or (then_some x (reply w.part)) (option_and_then (λ p. reply p.part when f p) b)
+        ≡ option_map (λ (p : AskedPath). reply p.part) (cond x (Some w) (find f (option_to_list b)))
+    by true b = refl
+    by false None = refl
+    by false (Some c) = last c (f c)
+
+module _ (setup : Setup) (d : Demand) (p : AskedPaths) where
+  reach-first : first_fault (reach_fault_of setup d) p.work p.back ≡ reach_fault setup d p
+  reach-first = two-faults Reply.Reach (λ q. not (reaches_end setup d q)) p.work p.back
+
+  band-first : first_fault (band_fault_of setup.band) (sized_paths setup d p).work (sized_paths setup d p).back
+      ≡ band_fault setup d p
+  band-first =
+      ap (option_or (band_fault_of setup.band (sized setup d p.work))) (by p.back)
+      ∙ two-faults Reply.Band (λ q. not (is_in_band setup d q)) p.work p.back
+    where
+      by : (b : Option AskedPath) → option_and_then (band_fault_of setup.band) (option_map (sized setup d) b)
+          ≡ option_and_then (λ q. Reply.Band q.part when not (is_in_band setup d q)) b
+      by None = refl
+      by (Some q) = refl
+
+  sized-risk : sized_risk setup.network (sized_paths setup d p) ≡ risk_fault setup.network p
+  sized-risk = by p.back
+    where
+      by : (b : Option AskedPath) →
+          risk_between setup.network p.work.route (option_map (λ (s : SizedPath). s.path) (option_map (sized setup d) b))
+          ≡ risk_between setup.network p.work.route b
+      by None = refl
+      by (Some q) = refl
+
+  sized-leg : leg_of (sized_paths setup d p) ≡ asked_leg setup d p.work p.back
+  sized-leg = by p.back
+    where
+      by : (b : Option AskedPath) → leg_of (sized_paths setup d (record { work = p.work; back = b }))
+          ≡ asked_leg setup d p.work b
+      by None = refl
+      by (Some q) = refl
+
+  -- no format reaches so far
+  pub reach-fault : (r : Reply) → Some r ≡ first_fault (reach_fault_of setup d) p.work p.back → Some r ≡ fault_of setup d p
+  reach-fault r h = sym (ap (λ o. option_or o (option_or (risk_fault setup.network p) (band_fault setup d p)))
+      (sym (h ∙ reach-first)))
+
+  past-reach : None ≡ first_fault (reach_fault_of setup d) p.work p.back →
+      option_or (risk_fault setup.network p) (band_fault setup d p) ≡ fault_of setup d p
+  past-reach none = ap (λ o. option_or o (option_or (risk_fault setup.network p) (band_fault setup d p)))
+      (none ∙ reach-first)
+
+  module _ (none : None ≡ first_fault (reach_fault_of setup d) p.work p.back) (net : Network) (of_net : net ≡ setup.network)
+      (s : SizedPaths) (is : s ≡ sized_paths setup d p) where
+    risk-is : sized_risk net s ≡ risk_fault setup.network p
+    risk-is = (λ i. sized_risk (of_net i) (is i)) ∙ sized-risk
+
+    -- the paths have a common group
+    pub risk-fault : (r : Reply) → Some r ≡ sized_risk net s → Some r ≡ fault_of setup d p
+    risk-fault r h = ap (λ o. option_or o (band_fault setup d p)) (h ∙ risk-is) ∙ past-reach none
+
+    -- a slot does not lie in the band, or nothing is in the way
+    pub band-fault : (o : Option Reply) (band : Band) → None ≡ sized_risk net s → band ≡ setup.band →
+        o ≡ first_fault (band_fault_of band) s.work s.back → o ≡ fault_of setup d p
+    band-fault o band free of_band h =
+        h ∙ (λ i. first_fault (band_fault_of (of_band i)) (is i).work (is i).back) ∙ band-first
+        ∙ ap (λ q. option_or q (band_fault setup d p)) (free ∙ risk-is) ∙ past-reach none
+
+    pub leg-is : (l : Leg) → l ≡ leg_of s → l ≡ asked_leg setup d p.work p.back
+    leg-is l h = h ∙ ap leg_of is ∙ sized-leg

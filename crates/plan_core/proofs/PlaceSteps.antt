@@ -48,14 +48,6 @@ pub or-none : (a b : Option Reply) → option_or a b ≡ None → (a ≡ None) �
 or-none None b h = (refl, h)
 or-none (Some r) b h = cc
 
--- without a fault of the paths there is none of reach, none of risk and none of the band
-pub no-faults : (setup : Setup) (d : Demand) (p : AskedPaths) → fault_of setup d p ≡ None →
-    (reach_fault setup d p ≡ None) × (band_fault setup d p ≡ None)
-no-faults setup d p h =
-    let a = or-none (reach_fault setup d p) (option_or (risk_fault setup.network p) (band_fault setup d p)) h in
-    let b = or-none (risk_fault setup.network p) (band_fault setup d p) a.1 in
-    (a.0, b.1)
-
 pass-by : (reply : Part → Reply) (b : Bool) (w : AskedPath) (rest : Option AskedPath) →
     option_map (λ (p : AskedPath). reply p.part) (cond (not b) (Some w) rest) ≡ None →
     (b ≡ true) × (option_map (λ (p : AskedPath). reply p.part) rest ≡ None)

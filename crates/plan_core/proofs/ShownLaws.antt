@@ -10,7 +10,7 @@ use Rattle.eon_model.specs.Routes.{route_cmp, is_open, lists_of_fibres, all_rout
 use Rattle.eon_model.specs.Legal.{Setup}
 use Rattle.eon_model.specs.NetworkText.{is_setup}
 use Rattle.eon_model.specs.Candidates.{max_reach}
-use Rattle.eon_model.proofs.OrderLaws.{IsIn, AllOf, AllOf-sort, route_cmp_total}
+use Rattle.eon_model.proofs.OrderLaws.{IsIn, AllOf, AllOf-sort}
 use Rattle.eon_model.proofs.ListLaws.{AllOf-filter, AllOf-map, all_kept}
 use Rattle.eon_model.proofs.FirstRoutesLaws.{route_of-is_route, is_route-route_of}
 use Rattle.eon_model.proofs.FoundLaws.{found}

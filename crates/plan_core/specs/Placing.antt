@@ -1,19 +1,21 @@
 -- The parts of the answer to `place`.
-use Rattle.std.specs.Prelude.{ℕ, ℤ, nat_le, ◌&&◌, not, List, ◌∷◌, ◌++◌, [], length, map, filter, Option, Some, None, is_some, Result, Ok, Err, if◌then◌else◌}
-use Rattle.std.specs.Option.{option_map, option_or, option_to_list}
+use Rattle.std.specs.Prelude.{ℕ, ◌≤◌, ℤ, nat_le, ◌&&◌, not, List, ◌∷◌, ◌++◌, [], length, map, filter, Option, Some, None, is_some, IfSome, Result, Ok, Err, if◌then◌else◌}
+use Rattle.std.specs.Option.{option_map, option_or, option_and_then, option_to_list, unwrap_or}
 use Rattle.std.specs.List.{range_with_len}
 use Rattle.eon_model.specs.declared.Part.TheVariants.{Work, Backup}
 use Rattle.eon_model.specs.Names.{Name, is_above}
 use Rattle.eon_model.specs.Sets.{NumberSet, has_member}
 use Rattle.eon_model.specs.Network.{Network, risk_name}
-use Rattle.eon_model.specs.Services.{Service, State, service_of}
-use Rattle.eon_model.specs.Legal.{Setup}
+use Rattle.eon_model.specs.Services.{Path, Leg, Service, State, service_of}
+use Rattle.eon_model.specs.Legal.{Setup, need_of}
 use Rattle.eon_model.specs.Commands.{Demand, PathWords}
 use Rattle.eon_model.specs.Replies.{Reply}
 use Rattle.eon_model.specs.Step as step
 use Rattle.eon_model.specs.Step.{AskedPath, Change, or_else, clash, enters, ◌when◌, asked, path_asked, asked_leg, is_node, is_fibre, unknown_in, fault_in, walks_between, reaches_end, is_in_band, risk_between, new_service}
 use Rattle.eon_model.specs.Grid.{Slot, Band, units_of, lies_in_band}
 use Rattle.plan_core.specs.declared.demand.AskedPaths.{AskedPaths}
+use Rattle.plan_core.specs.declared.demand.SizedPath.{SizedPath}
+use Rattle.plan_core.specs.declared.demand.SizedPaths.{SizedPaths}
 use Rattle.eon_model.specs.Events.{Event, enter_text_of}
 use Rattle.reply_text.specs.declared.reply.Reply as code
 use Rattle.reply_text.specs.Replied.{reply_told}
@@ -69,10 +71,43 @@ abbrev pub slot_in_band : Band → ℤ → ℕ → Option Slot
 slot_in_band band n m =
     let s : Slot = record { n = n; m = m } in if lies_in_band band (units_of s) then Some s else None
 
--- the slot of a path within reach and in the band
-abbrev pub slot_if_fits : Setup → Demand → AskedPath → Option Slot
-slot_if_fits setup d p =
-    if reaches_end setup d p && is_in_band setup d p then Some (path_asked setup d p).slot else None
+-- ---- path by path
+
+-- the first fault of the working path, and then of the backup path
+abbrev pub first_fault : {P : Type 0} → (P → Option Reply) → P → Option P → Option Reply
+first_fault fault work back = option_or (fault work) (option_and_then fault back)
+
+-- no format reaches so far
+abbrev pub reach_fault_of : Setup → Demand → AskedPath → Option Reply
+reach_fault_of setup d p = Reply.Reach p.part when not (reaches_end setup d p)
+
+-- the path with the width that the rate needs on it
+abbrev pub sized : Setup → Demand → AskedPath → SizedPath
+sized setup d p = record { path = p; m = unwrap_or (need_of setup d.rate p.route.km) 0 }
+
+abbrev pub sized_paths : Setup → Demand → AskedPaths → SizedPaths
+sized_paths setup d p = record { work = sized setup d p.work; back = option_map (sized setup d) p.back }
+
+-- no width is 0
+pub record AreWide (s : SizedPaths) : Type 0 where
+  pub work : 1 ≤ s.work.m
+  pub back : IfSome s.back (λ p. 1 ≤ p.m)
+
+-- the path on its slot
+abbrev pub path_of : SizedPath → Path
+path_of s = record { route = s.path.route; slot = record { n = s.path.n; m = s.m } }
+
+-- the leg that stands on these paths
+abbrev pub leg_of : SizedPaths → Leg
+leg_of s = record { work = path_of s.work; to = None; back = option_map path_of s.back }
+
+-- the slot does not lie in the band
+abbrev pub band_fault_of : Band → SizedPath → Option Reply
+band_fault_of band s = Reply.Band s.path.part when not (lies_in_band band (units_of (path_of s).slot))
+
+-- the least group that both paths have
+abbrev pub sized_risk : Network → SizedPaths → Option Reply
+sized_risk net s = risk_between net s.work.path.route (option_map (λ (b : SizedPath). b.path) s.back)
 
 -- ---- shared groups
 

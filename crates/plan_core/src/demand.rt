@@ -51,6 +51,20 @@ pub struct AskedPaths {
     pub back: Option<AskedPath>,
 }
 
+/// A path that is asked for, and how many times 12.5 GHz wide the slot is that the rate needs on it.
+#[derive(Drop)]
+pub struct SizedPath {
+    pub path: AskedPath,
+    pub m: u16,
+}
+
+/// The same of the working path, and of the backup path where there is one.
+#[derive(Drop)]
+pub struct SizedPaths {
+    pub work: SizedPath,
+    pub back: Option<SizedPath>,
+}
+
 /// The number of the node of this name, and 0 where there is none.
 pub fn node_numbered(net: &Net, name: &Name) -> u8
     ensures { result ≡ step.node_numbered net.now name.now }

@@ -4,6 +4,7 @@
 #![tactic(auto)]
 
 mod admit;
+mod asked_leg;
 mod asked_paths;
 mod awaited;
 mod compacting;
@@ -18,7 +19,6 @@ mod listings;
 mod live;
 pub mod machine;
 mod moves;
-mod path_faults;
 mod place;
 mod proposal;
 mod refusal;

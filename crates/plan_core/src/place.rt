@@ -13,63 +13,17 @@ ghost use Rattle.plan_core.specs.Told.{outcome_told};
 ghost use Rattle.plan_core.specs.Waiting.{IsPrepared};
 ghost use Rattle.plan_core.specs.Placing as placing;
 
+use crate::asked_leg::asked_leg;
 use crate::asked_paths::asked_paths;
-use crate::demand::{AskedPath, AskedPaths, Demand, node_numbered};
-use crate::path_faults::{fault_of, slot};
+use crate::demand::{AskedPaths, Demand, node_numbered};
 use crate::proposal::{Proposal, enter, say};
 use crate::refusal::refusal;
 use command_text::{BackWords, FibreNames};
-use leg_state::{Leg, Path, Service, Services, first_clash};
+use leg_state::{Leg, Service, Services, first_clash};
 use net_graph::Net;
 use net_setup::NetSetup;
 use reply_text::Reply;
 use std::alloc::{AllocError, Global};
-
-// The path that was asked for, with the slot that the rate needs.
-fn placed_path(setup: &NetSetup, demand: &Demand, path: AskedPath) -> Path
-    requires in_range { IsTrue (is_setup setup.now) }
-    requires rate { IsTrue (is_rate demand.now.rate) }
-    requires reach { IsTrue (step.reaches_end setup.now demand.now path) }
-    requires band { IsTrue (step.is_in_band setup.now demand.now path) }
-    ensures { result ≡ step.path_asked setup.now demand.now path }
-{
-    match slot(setup, demand, &path) {
-        Some(slot) => Path {
-            route: path.route,
-            slot,
-        },
-        None => unreachable!(),
-    }
-}
-
-// The same of the backup path, where there is one.
-fn placed_back(setup: &NetSetup, demand: &Demand, back: Option<AskedPath>) -> Option<Path>
-    requires in_range { IsTrue (is_setup setup.now) }
-    requires rate { IsTrue (is_rate demand.now.rate) }
-    requires reach { IfSome back (λ p. IsTrue (step.reaches_end setup.now demand.now p)) }
-    requires band { IfSome back (λ p. IsTrue (step.is_in_band setup.now demand.now p)) }
-    ensures { result ≡ option_map (step.path_asked setup.now demand.now) back }
-{
-    match back {
-        Some(path) => Some(placed_path(setup, demand, path)),
-        None => None,
-    }
-}
-
-// The leg that was asked for.
-fn placed_leg(setup: &NetSetup, demand: &Demand, paths: AskedPaths) -> Leg
-    requires in_range { IsTrue (is_setup setup.now) }
-    requires rate { IsTrue (is_rate demand.now.rate) }
-    requires reach { placing.reach_fault setup.now demand.now paths ≡ None }
-    requires band { placing.band_fault setup.now demand.now paths ≡ None }
-    ensures { result ≡ step.asked_leg setup.now demand.now paths.work paths.back }
-{
-    Leg {
-        work: placed_path(setup, demand, paths.work),
-        to: None,
-        back: placed_back(setup, demand, paths.back),
-    }
-}
 
 /// The service that is asked for, on a leg.
 pub fn new_service(net: &Net, demand: &Demand, leg: Leg) -> Service
@@ -99,10 +53,7 @@ fn placed_service(
     ensures is { placing.entering (said.Placed demand.now.name) result ≡ placing.placed_on setup.now services.now.list demand.now paths }
     ensures service { IfOk result (λ s. s ≡ placing.service_asked setup.now demand.now paths) }
 {
-    if let Some(reply) = fault_of(setup, demand, &paths) {
-        return Err(reply);
-    }
-    let leg = placed_leg(setup, demand, paths);
+    let leg = asked_leg(setup, demand, paths)?;
     match first_clash(services, demand.class, &leg, Some(&demand.name)) {
         Some(name) => Err(Reply::Clash { name }),
         None => Ok(new_service(&setup.net, demand, leg)),

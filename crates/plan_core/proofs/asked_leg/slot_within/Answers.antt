@@ -2,7 +2,7 @@ use Rattle.std.proofs.Common.{◌∙◌, sym, ap, w16}
 use Rattle.std.proofs.lemmas.Int.{to_z-of_z}
 use Rattle.flex_grid.specs.Makes.{slot_of}
 use Rattle.plan_core.proofs.FaultSteps.{slot-made, slot-none}
-use Rattle.plan_core.proofs.path_faults.slot_within.Goals as goal
+use Rattle.plan_core.proofs.asked_leg.slot_within.Goals as goal
 
 pub returns-in-Some : goal.returns-in-Some
 returns-in-Some c = slot-made c.args.band.now c.units.result c.args.n c.args.m c.in-Some.slot c.within.result c.then_some.result

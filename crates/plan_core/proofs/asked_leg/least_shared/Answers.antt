@@ -2,7 +2,7 @@ use Rattle.std.proofs.Common.{◌≡◌, ◌∙◌, sym, ap, ◌+◌, length, ar
 use Rattle.eon_model.specs.Names.{least_name}
 use Rattle.plan_core.specs.Placing.{least_with, shared_below}
 use Rattle.plan_core.proofs.SharedSteps.{least_below-more, least_below-all}
-use Rattle.plan_core.proofs.path_faults.least_shared.Goals as goal
+use Rattle.plan_core.proofs.asked_leg.least_shared.Goals as goal
 
 pub loop-risk-preserved : goal.loop-risk-preserved
 loop-risk-preserved c =
