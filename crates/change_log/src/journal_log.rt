@@ -10,49 +10,39 @@ use eon_disk::Disk;
 use journal_record::Event;
 use plan_journal::{AppendFault, Journal, Place};
 
-/// A log over a journal that was made ready. When an event is kept it is on the disk.
-#[derive(Drop)]
-pub struct JournalLog<'d, D: Disk> {
-    /// The journal, over the disk that it borrows.
-    pub journal: Journal<'d, D>,
-}
-
-impl<'d, D: Disk> JournalLog<'d, D> {
-    /// Keeps events in the journal of this disk, which was made ready and goes on at this place.
-    pub fn over(disk: &'d mut D, place: Place) -> JournalLog<'d, D>
-        ensures same_reference { result.journal.disk.ghost_name ≡ disk.entry.ghost_name }
-        ensures same { result.journal.disk.now ≡ disk.old }
-        ensures place { result.journal.place ≡ place }
-        ensures spent { result.journal.spent ≡ false }
-    {
-        JournalLog {
-            journal: Journal {
-                disk,
-                place,
-                spent: false,
-            },
-        }
+/// The journal of this disk, which was made ready and goes on at this place.
+pub fn journal_at<D: Disk>(disk: &mut D, place: Place) -> Journal<'_, D>
+    ensures same_reference { result.disk.ghost_name ≡ disk.entry.ghost_name }
+    ensures same { result.disk.now ≡ disk.old }
+    ensures place { result.place ≡ place }
+    ensures spent { result.spent ≡ false }
+{
+    Journal {
+        disk,
+        place,
+        spent: false,
     }
 }
 
-impl<'d, D: Disk> Log for JournalLog<'d, D> {
-    ghost left = { λ log. Some (left_at log.journal.place.limit log.journal.place.at) };
+/// A journal that was made ready is a log. When an event is kept it is on the disk.
+impl<'d, D: Disk> Log for Journal<'d, D> {
+    ghost left = { λ log. Some (left_at log.place.limit log.place.at) };
 
-    ghost faults = { λ log. D.faults log.journal.disk.now };
+    ghost faults = { λ log. D.faults log.disk.now };
 
-    ghost can_keep = { λ log. (log.journal.spent ≡ false) × IsReady (D.now log.journal.disk.now) (D.images log.journal.disk.now) log.journal.place.at };
+    ghost can_keep = { λ log. (log.spent ≡ false) × IsReady (D.now log.disk.now) (D.images log.disk.now) log.place.at };
 
-    ghost keeps = { λ old new events doubt. KeepsOn D.now D.images D.clock D.images_since D.faults D.asked old.journal.disk.ghost_name new.journal.disk.ghost_name old.journal.disk.now new.journal.disk.now old.journal.place new.journal.place events doubt };
+    ghost keeps = { λ old new events doubt. KeepsOn D.now D.images D.clock D.images_since D.faults D.asked old.disk.ghost_name new.disk.ghost_name old.disk.now new.disk.now old.place new.place events doubt };
 
     fn keep(&mut self, event: &Event) -> Result<(), Unkept> {
-        match self.journal.append(event) {
+        match self.append(event) {
             Ok(()) => Ok(()),
             Err(AppendFault::Full { need, left }) => Err(Unkept::Full { need, left }),
             Err(AppendFault::Disk) => Err(Unkept::Disk),
         }
     }
 
-    ghost keeps_none = { λ log. keeps_none D.now D.images D.clock D.images_since D.faults D.asked D.only_now log.journal.disk.ghost_name log.journal.disk.now log.journal.place };
+    ghost keeps_none = { λ log. keeps_none D.now D.images D.clock D.images_since D.faults D.asked D.only_now log.disk.ghost_name log.disk.now log.place };
 
-    ghost keeps_more = { λ before here now first more next one two. keeps_more D.now D.images D.clock D.images_since D.faults D.asked before.journal.disk.ghost_name here.journal.disk.ghost_name now.journal.disk.ghost_name before.journal.disk.now here.journal.disk.now now.journal.disk.now before.journal.place here.journal.place now.journal.place first more next one two };
+    ghost keeps_more = { λ before here now first more next one two. keeps_more D.now D.images D.clock D.images_since D.faults D.asked before.disk.ghost_name here.disk.ghost_name now.disk.ghost_name before.disk.now here.disk.now now.disk.now before.place here.place now.place first more next one two };
 }

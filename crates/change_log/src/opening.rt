@@ -91,8 +91,8 @@ fn open_attached<D: Disk>(
 
 /// Opens the journal of this name for changes, over a machine without a service: the file is attached, and not made where it
 /// is not there; each event that stands in it is followed; and the gate behind them is closed. `own` is the digest of the
-/// network's text. `JournalLog::over` then keeps events from this place on. After a failure the machine has followed some of
-/// the events, and only where the disk failed the journal may be read otherwise than before.
+/// network's text. `journal_at` then keeps events from this place on. After a failure the machine has followed some of the
+/// events, and only where the disk failed the journal may be read otherwise than before.
 pub fn open_log<D: Deck>(
     core: &mut Core,
     disk: &mut D,

@@ -2,11 +2,11 @@ use Rattle.std.proofs.Common.{◌≡◌}
 use denote.Builtin.{unit}
 use Rattle.journal_record.specs.Told.{event_told}
 use Rattle.change_log.proofs.KeepSteps.{keeps-it, doubts-it, keeps-not, on-full, on-fault}
-use Rattle.change_log.proofs.journal_log.JournalLogLog.keep.Goals as goal
+use Rattle.change_log.proofs.journal_log.JournalLog.keep.Goals as goal
 
 pub returns-in-Ok-clause-kept : goal.returns-in-Ok-clause-kept
 returns-in-Ok-clause-kept g c =
-    let was = c.args.self.now.journal in
+    let was = c.args.self.now in
     let is = c.append.new.self in
     let k = c.in-Ok.ensures in
     keeps-it g.D.Disk.now g.D.Disk.images g.D.Disk.clock g.D.Disk.images_since g.D.Disk.faults g.D.Disk.asked
@@ -15,7 +15,7 @@ returns-in-Ok-clause-kept g c =
 
 pub returns-in-Err-Full-clause-kept : goal.returns-in-Err-Full-clause-kept
 returns-in-Err-Full-clause-kept g c =
-    let was = c.args.self.now.journal in
+    let was = c.args.self.now in
     let is = c.append.new.self in
     let k = c.in-Err-Full.ensures in
     keeps-not g.D.Disk.now g.D.Disk.images g.D.Disk.clock g.D.Disk.images_since g.D.Disk.faults g.D.Disk.asked
@@ -26,7 +26,7 @@ returns-in-Err-Full-clause-kept g c =
 
 pub returns-in-Err-Disk-clause-kept : goal.returns-in-Err-Disk-clause-kept
 returns-in-Err-Disk-clause-kept g c =
-    let was = c.args.self.now.journal in
+    let was = c.args.self.now in
     let is = c.append.new.self in
     let k = c.in-Err-Disk.ensures in
     doubts-it g.D.Disk.now g.D.Disk.images g.D.Disk.clock g.D.Disk.images_since g.D.Disk.faults g.D.Disk.asked
