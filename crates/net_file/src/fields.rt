@@ -32,6 +32,13 @@ impl<'a> Fields<'a> {
         Fields { rest: Some(line) }
     }
 
+    /// A second cursor at the same place.
+    pub fn ahead(&self) -> Fields<'a>
+        ensures { result ≡ self.now }
+    {
+        Fields { rest: self.rest }
+    }
+
     /// The next field, or `None` behind the last one.
     pub fn next_field(&mut self) -> Option<&'a [u8]>
         ensures value { option_copied result ≡ slice_get self.old 0 }

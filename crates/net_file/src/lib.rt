@@ -5,15 +5,17 @@
 mod cut;
 mod draft;
 pub mod fault;
-mod fields;
+pub mod fields;
 pub mod laws;
 mod line_words;
-mod lines;
+pub mod lines;
 mod parts;
 mod printing;
 pub mod reading;
 mod word;
 
 pub use fault::{NetFault, NetRefusal, Why};
+pub use fields::Fields;
+pub use lines::Lines;
 pub use printing::print_net;
 pub use reading::read_net;
