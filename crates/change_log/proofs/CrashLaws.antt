@@ -5,14 +5,16 @@ use Rattle.std.specs.Option.{option_to_list}
 use Rattle.std.proofs.lemmas.List.{append_assoc, length-append}
 use Rattle.eon_model.specs.Legal.{Setup}
 use Rattle.eon_model.specs.Events.{Event}
-use Rattle.eon_model.specs.Journal.{written, bound_digest, Stands}
+use Rattle.eon_model.specs.Journal.{written, bound_digest, Stands, kept_digest}
 use Rattle.eon_model.specs.Readings.{IsReading, IsSoundJournal}
 use Rattle.eon_model.specs.JournalMoments.{HasJournal, IsClosing, IsLeftByRun, IsStartAnd}
 use Rattle.eon_model.proofs.AppendLaws.{HasJournal-first, closing-sound, own-stands, shut}
 use Rattle.eon_model.proofs.JournalMomentLaws.{goes_on, run_held}
+use Rattle.eon_disk.specs.Asked.{Asked}
 use Rattle.plan_journal.proofs.MomentLaws.{weaker, then}
 use Rattle.change_log.specs.Holding.{IsLeftWithin}
 use Rattle.change_log.specs.Crash.{IsSafeBefore, IsSafeSince, IsLeftByOpening, OpeningIsSafe, KeptIsSafeNow, KeptIsSafeSince, HeldIsRead}
+use Rattle.change_log.specs.Opening.{CallsAreSafe}
 
 -- ---- images
 
@@ -111,3 +113,22 @@ module _ {D : Type 0} (now : D → Option (List ℕ)) (images : D → List ℕ �
         × ((reading : List Event) → IsReading setup v reading → reading ≡ events))
         (sym (holds.durable c image)) (shut setup head events [] h),
   )
+
+  -- ---- a whole call
+
+  pub calls-safe : ((d : D) → IfSome (now d) (images d)) → (faults : D → ℕ) (asked : D → Option Asked) →
+      CallsAreSafe now images clock since faults asked
+  calls-safe reads faults asked setup bytes own state old mid new place after was is events doubt opens sound left keeps h =
+      let head = kept_digest bytes in
+      let a = keeps.appends head opens.events opens.holds in
+      let whole : HasJournal setup head ((opens.events ++ events) ++ option_to_list doubt) =
+      subst (λ (es : List Event). HasJournal setup head es)
+      (sym (append_assoc opens.events events (option_to_list doubt))) h in
+      record {
+        stands = λ none. (held-read new setup after head (opens.events ++ events) (a.holds none)
+            (HasJournal-first setup head (opens.events ++ events) (option_to_list doubt) whole)).0;
+        at_any_time = kept-safe-since old mid new after setup head opens.events events doubt
+            (opening-safe reads setup own old mid sound left) a h;
+        now_left = λ acknowledged few one_more c image.
+            kept-safe-now mid new after setup head opens.events events doubt acknowledged a h few one_more c image;
+      }

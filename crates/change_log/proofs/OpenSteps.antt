@@ -4,7 +4,7 @@ use Rattle.std.specs.Prelude.{Ok, IfSome, is_some, option_map}
 use Rattle.eon_model.specs.Services.{State}
 use Rattle.eon_model.specs.Legal.{Setup}
 use Rattle.eon_model.specs.Disk.{Unchanged, Elapses, LeavesOnly}
-use Rattle.eon_model.specs.Journal.{journal_of, kept_digest}
+use Rattle.eon_model.specs.Journal.{journal_of, left_at, kept_digest}
 use Rattle.eon_model.specs.JournalFault.{IsKept}
 use Rattle.eon_model.specs.JournalMoments.{IsClosing}
 use Rattle.eon_model.proofs.AppendLaws.{closed-stands}
@@ -21,9 +21,9 @@ use Rattle.change_log.specs.Opening.{Opens, IsOpened}
 -- the journal's gate is closed
 pub closed-opens : (setup : Setup) (bytes own : List ℕ) (state : State) (now : Option (List ℕ))
     (images : List ℕ → Type 0) (place : Place) (count : ℕ) → StandsFor setup bytes own state place.at count →
-    place.number ≡ count + 1 → now ≡ Some (closed_at place.at bytes) → IsReady now images place.at →
-    Opens setup bytes own state now images place
-closed-opens setup bytes own state now images place count s number is ready =
+    place.limit ≡ setup.journal → place.number ≡ count + 1 → now ≡ Some (closed_at place.at bytes) →
+    IsReady now images place.at → Opens setup bytes own state now images place
+closed-opens setup bytes own state now images place count s limit number is ready =
     let kept = kept_digest bytes in
     let t = closed-stands setup bytes own s.events place.at s.stands (ap is_some s.replays) in
     let all : now ≡ Some (journal_of kept s.events) = is ∙ ap (λ (v : List ℕ). Some v) t.1 in
@@ -41,6 +41,7 @@ closed-opens setup bytes own state now images place count s number is ready =
         at = s.stands.begins.place;
         number = number ∙ ap (λ (n : ℕ). n + 1) s.counted;
       };
+      left = λ i. left_at (limit i) (s.stands.begins.place i);
     }
 
 -- ---- bytes that may be told
@@ -52,13 +53,14 @@ OverKept o setup P = IfSome o (λ bytes. (own : List ℕ) → IsKept bytes setup
 -- it replays, and its gate is closed
 pub told-opened : (o mid : Option (List ℕ)) → mid ≡ o → (setup : Setup) (state : State) (count : ℕ) (was place : Place) →
     place ≡ was → (now : Option (List ℕ)) (images : List ℕ → Type 0) →
-    OverKept o setup (λ bytes own. IsReplayed setup bytes own state was.at (Ok count)) → was.number ≡ count + 1 →
+    OverKept o setup (λ bytes own. IsReplayed setup bytes own state was.at (Ok count)) →
+    was.limit ≡ setup.journal → was.number ≡ count + 1 →
     now ≡ option_map (closed_at was.at) mid → IsReady now images place.at →
     OverKept o setup (λ bytes own. IsOpened setup bytes own state now images (Ok place))
-told-opened None mid told setup state count was place same now images h number is ready = tt
-told-opened (Some bytes) mid told setup state count was place same now images h number is ready = λ own kept.
+told-opened None mid told setup state count was place same now images h limit number is ready = tt
+told-opened (Some bytes) mid told setup state count was place same now images h limit number is ready = λ own kept.
     subst (λ (p : Place). Opens setup bytes own state now images p) (sym same)
-    (closed-opens setup bytes own state now images was count (h own kept) number
+    (closed-opens setup bytes own state now images was count (h own kept) limit number
     (is ∙ ap (option_map (closed_at was.at)) told)
     (subst (λ (p : Place). IsReady now images p.at) same ready))
 

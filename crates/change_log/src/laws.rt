@@ -1,5 +1,6 @@
 //! What a crash may leave of a journal that is opened, and to which a run's changes are kept.
 ghost use Rattle.change_log.specs.Crash.{OpeningIsSafe, KeptIsSafeNow, KeptIsSafeSince, HeldIsRead};
+ghost use Rattle.change_log.specs.Opening.{CallsAreSafe};
 
 use eon_disk::Disk;
 
@@ -21,4 +22,9 @@ pub fn kept_is_safe_since<D: Disk>()
 /// A journal that holds events is read as them alone.
 pub fn held_is_read<D: Disk>()
     ensures { HeldIsRead D.now D.images D.clock D.images_since }
+{}
+
+/// A call that opens a sound journal and keeps a run's changes leaves no more than the run, with every acknowledged change.
+pub fn calls_are_safe<D: Disk>()
+    ensures { CallsAreSafe D.now D.images D.clock D.images_since D.faults D.asked }
 {}
