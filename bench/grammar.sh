@@ -1,12 +1,12 @@
 #!/usr/bin/env bash
 # Times the reading of command lines by itself: a small program reads a file of mixed lines into memory, cuts it at the
 # line ends, and gives each line to `read_command`. The time is taken within the program, without the reading of the file.
-# The program is built outside the checkout, beside copies of the three crates that it stands on; a build proves
+# The program is built outside the checkout, beside copies of the crates that it stands on; a build proves
 # these, which takes some minutes, and is kept for as long as they stay the same.
 set -eu
 lines=${1:-1000000}
 top=$(cd "$(dirname "$0")/.." && pwd)
-crates="eon_model eon_base command_text"
+. "$top/bench/built.sh"
 
 write_program() {
     cat >"$1" <<'PROGRAM'
@@ -48,32 +48,8 @@ fn main(rt: HostRuntime) -> io::Result<()> {
 PROGRAM
 }
 
-sources() {
-    for crate in $crates; do
-        find "$top/crates/$crate" -name out -prune -o -type f \( -name '*.rt' -o -name '*.antt' \) -print0
-    done | sort -z | xargs -0 cat "$0" | sha256sum | cut -c1-16
-}
-
-built=${XDG_CACHE_HOME:-$HOME/.cache}/eonplan-bench/$(sources)
-program=$built/crates/read_lines/out/read_lines
-if [ ! -x "$program" ]; then
-    rm -rf "${built%/*}"
-    mkdir -p "$built/crates/read_lines/src"
-    printf '%s\n' 'eon_model:' 'eon_base: eon_model itoa' 'command_text: eon_base eon_model' 'read_lines: command_text' \
-        >"$built/crates.txt"
-    for crate in $crates; do
-        mkdir "$built/crates/$crate"
-        for part in src specs proofs; do
-            cp -r "$top/crates/$crate/$part" "$built/crates/$crate/"
-        done
-    done
-    write_program "$built/crates/read_lines/src/main.rt"
-    echo "grammar.sh: building (messages go to $built/build.log)" >&2
-    (cd "$built/crates/read_lines" && rt run </dev/null) >"$built/build.log" 2>&1 || {
-        tail -n 20 "$built/build.log" >&2
-        exit 1
-    }
-fi
+uses=command_text
+program=$(built read_lines)
 work=$(mktemp -d)
 trap 'rm -rf "$work"' EXIT
 "$top/bench/mixed_lines.sh" "$lines" >"$work/commands"

@@ -6,7 +6,7 @@
 set -eu
 calls=${1:-100000}
 top=$(cd "$(dirname "$0")/.." && pwd)
-crates="eon_model flex_grid spectrum_map block_fit spectrum_rows"
+. "$top/bench/built.sh"
 
 write_program() {
     cat >"$1" <<'PROGRAM'
@@ -116,33 +116,7 @@ fn main(rt: HostRuntime) -> io::Result<()> {
 PROGRAM
 }
 
-sources() {
-    for crate in $crates; do
-        find "$top/crates/$crate" -name out -prune -o -type f \( -name '*.rt' -o -name '*.antt' \) -print0
-    done | sort -z | xargs -0 cat "$0" | sha256sum | cut -c1-16
-}
-
-built=${XDG_CACHE_HOME:-$HOME/.cache}/eonplan-bench/spectrum-$(sources)
-program=$built/crates/spectrum_rows/out/spectrum_rows
-if [ ! -x "$program" ]; then
-    rm -rf "${built%/*}"/spectrum-*
-    mkdir -p "$built/crates"
-    printf '%s\n' 'eon_model:' 'flex_grid: eon_model' 'spectrum_map: flex_grid eon_model' \
-        'block_fit: spectrum_map flex_grid eon_model' 'spectrum_rows: block_fit spectrum_map flex_grid eon_model' >"$built/crates.txt"
-    for crate in $crates; do
-        mkdir "$built/crates/$crate"
-        for part in src specs proofs; do
-            [ ! -d "$top/crates/$crate/$part" ] || cp -r "$top/crates/$crate/$part" "$built/crates/$crate/"
-        done
-    done
-    rm "$built/crates/spectrum_rows/src/row.rt"
-    write_program "$built/crates/spectrum_rows/src/main.rt"
-    echo "spectrum.sh: building (messages go to $built/build.log)" >&2
-    (cd "$built/crates/spectrum_rows" && rt run </dev/null) >"$built/build.log" 2>&1 || {
-        tail -n 20 "$built/build.log" >&2
-        exit 1
-    }
-fi
+program=$(built spectrum_rows row.rt)
 "$program" "$calls" | awk '{
     printf "%-6s %2d fibres, width %2d: centre %s, %.0f ns a call\n", $1, $2, $3, $6, $5 / $4
 }'
