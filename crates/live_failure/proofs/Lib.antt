@@ -1,0 +1,14 @@
+mod VerbLaws
+mod VerbSteps
+mod LineLaws
+mod ReadSteps
+mod LostLaws
+mod WalkLaws
+mod OrderSteps
+mod TextLaws
+mod RivalLaws
+mod AuditLaws
+mod AnswerLaws
+mod GroupNumbers
+mod StandingLaws
+mod SaidLaws

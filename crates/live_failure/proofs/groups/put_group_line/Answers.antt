@@ -1,0 +1,5 @@
+use Rattle.line_writer.proofs.WordLaws.{line_taken}
+use Rattle.live_failure.proofs.groups.put_group_line.Goals as goal
+
+pub returns : goal.returns
+returns g c = line_taken _ _ _ _ _ _ c.put.ensures c.put_group.ensures c.end_line.ensures

@@ -1,0 +1,11 @@
+pub mod Given
+pub mod Lines
+pub mod Told
+pub mod Parts
+pub mod Lit
+pub mod Standings
+pub mod Order
+pub mod Seen
+pub mod Rivals
+pub mod Replied
+pub mod Answering
