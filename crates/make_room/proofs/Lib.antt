@@ -1,0 +1,11 @@
+pub mod SettleSteps
+pub mod HeightLaws
+pub mod EachLaws
+pub mod SideLaws
+pub mod StandFacts
+pub mod ExtremeFacts
+pub mod LeastFacts
+pub mod ExtremesAre
+pub mod ClearFacts
+pub mod ClearAre
+pub mod TargetsAre

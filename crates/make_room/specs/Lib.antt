@@ -1,0 +1,5 @@
+pub mod Settling
+pub mod Heights
+pub mod Sweeps
+pub mod Sides
+pub mod Targets

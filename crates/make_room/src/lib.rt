@@ -1,0 +1,16 @@
+//! Where channels can drift so that a block of spectrum becomes free, with none moving over another. Four sweeps of one kind
+//! give the lowest and the highest place of each channel, and its targets downwards and upwards: each goes once over the
+//! channels, in the order in which they stand, from the floor of the grid up or from its ceiling down. The layer above asks
+//! `room_targets`.
+#![tactic(auto)]
+
+pub mod heights;
+mod settle;
+mod sides;
+mod sweeps;
+pub mod targets;
+
+pub use flex_grid::band::Band;
+pub use heights::From;
+pub use leg_state::{Path, Services};
+pub use targets::{Targets, room_targets};
