@@ -13,7 +13,7 @@ use Rattle.eon_model.proofs.JournalMomentLaws.{goes_on, run_held}
 use Rattle.eon_disk.specs.Asked.{Asked}
 use Rattle.plan_journal.proofs.MomentLaws.{weaker, then}
 use Rattle.change_log.specs.Holding.{IsLeftWithin}
-use Rattle.change_log.specs.Crash.{IsSafeBefore, IsSafeSince, IsLeftByOpening, OpeningIsSafe, KeptIsSafeNow, KeptIsSafeSince, HeldIsRead}
+use Rattle.change_log.specs.Crash.{IsSafeBefore, IsSafeSince, IsLeftByOpening, OpeningIsSafe, OpeningIsSafeNow, KeptIsSafeNow, KeptIsSafeSince, HeldIsRead}
 use Rattle.change_log.specs.Opening.{CallsAreSafe}
 
 -- ---- images
@@ -81,6 +81,12 @@ module _ {D : Type 0} (now : D → Option (List ℕ)) (images : D → List ℕ �
   opening-safe reads setup digest old new sound left =
       weaker clock since old new (IsLeftByOpening setup (now old) digest (images old)) (IsSafeBefore setup (images old)) left
       (λ c l. opening-left setup (now old) digest (images old) c sound (reads old) l)
+
+  pub opening-safe-now : ((d : D) → IfSome (now d) (images d)) →
+      ((d : D) (t : ℕ) (c : List ℕ) → t ≤ clock d → images d c → since d t c) → OpeningIsSafeNow now images clock since
+  opening-safe-now reads counts_now setup digest old new sound left c image =
+      let safe = opening-safe reads setup digest old new sound left in
+      safe.each c (counts_now new (clock old) c safe.later image)
 
   pub kept-safe-now : KeptIsSafeNow now images clock since
   kept-safe-now old new after setup head start events doubt acknowledged a h few one_more c image =

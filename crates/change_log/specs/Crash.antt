@@ -51,6 +51,13 @@ module _ {D : Type 0} (now : D → Option (List ℕ)) (images : D → List ℕ �
       → LeavesOnly clock since old new (IsLeftByOpening setup (now old) digest (images old))
       → LeavesOnly clock since old new (IsSafeBefore setup (images old))
 
+  -- And so is what a crash leaves now.
+  abbrev pub OpeningIsSafeNow : Type 0
+  OpeningIsSafeNow =
+      (setup : Setup) (digest : List ℕ) (old new : D) → ((c : List ℕ) → images old c → IsSoundJournal setup c)
+      → LeavesOnly clock since old new (IsLeftByOpening setup (now old) digest (images old))
+      → (c : List ℕ) → images new c → IsSafeBefore setup (images old) c
+
   -- Of a journal that held the events of the start some were appended, and then perhaps one in doubt: what a crash leaves
   -- now holds every change that is acknowledged, where all are but the last one at most, and none that is in doubt.
   abbrev pub KeptIsSafeNow : Type 0

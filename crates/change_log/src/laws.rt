@@ -1,5 +1,5 @@
 //! What a crash may leave of a journal that is opened, and to which a run's changes are kept.
-ghost use Rattle.change_log.specs.Crash.{OpeningIsSafe, KeptIsSafeNow, KeptIsSafeSince, HeldIsRead};
+ghost use Rattle.change_log.specs.Crash.{OpeningIsSafe, OpeningIsSafeNow, KeptIsSafeNow, KeptIsSafeSince, HeldIsRead};
 ghost use Rattle.change_log.specs.Opening.{CallsAreSafe};
 
 use eon_disk::Disk;
@@ -7,6 +7,11 @@ use eon_disk::Disk;
 /// What is left while a sound journal is opened is sound, and is read as one of the images before.
 pub fn opening_is_safe<D: Disk>()
     ensures { OpeningIsSafe D.now D.images D.clock D.images_since }
+{}
+
+/// So is what a crash leaves when the opening ends, also where it fails.
+pub fn opening_is_safe_now<D: Disk>()
+    ensures { OpeningIsSafeNow D.now D.images D.clock D.images_since }
 {}
 
 /// What is left behind kept changes holds every acknowledged change, and at most one other.
