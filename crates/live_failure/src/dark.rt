@@ -63,8 +63,8 @@ pub(crate) fn is_rival(own: &Service, other: &Service) -> bool
     ensures { result ≡ is_rival own.now other.now }
 {
     other.class.shared()
-        && !other.is_named(&own.name)
         && backs_overlap(&own.leg.back, &other.leg.back)
+        && !other.is_named(&own.name)
 }
 
 /// Whether the backup of a shared service has taken over.
