@@ -21,7 +21,7 @@ use Rattle.eon_model.proofs.LeewayLaws.{leeway_at}
 use Rattle.eon_model.proofs.TouchLaws.{IsRaised, CanGo-raised, CanGo-lowered}
 use Rattle.eon_model.proofs.ClearedLaws.{IsLetDown, IsLetUp, IsTop-cleared, IsBottom-cleared}
 use Rattle.eon_model.proofs.SweptRoom.{down-of_top, up-of_bottom}
-use Rattle.make_room.specs.declared.heights.From.TheVariants.{Floor, Ceiling}
+use Rattle.make_room.specs.declared.heights.Side.TheVariants.{Floor, Ceiling}
 use Rattle.make_room.specs.Heights.{begin_of, end_of, centre_from}
 use Rattle.make_room.specs.Sweeps.{SettlesLeast, SettlesClear, centres_from}
 use Rattle.make_room.proofs.SideLaws.{OnGrid, before-ends, ends-before, ends-right, begins-not_past, not_past-begins, centres_long, place-at, wide-units}

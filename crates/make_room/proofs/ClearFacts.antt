@@ -10,7 +10,7 @@ use Rattle.eon_model.specs.Legal.{Setup, Legal}
 use Rattle.eon_model.specs.Places.{target_in, AtRest, Places, own_places, units_at}
 use Rattle.eon_model.proofs.OrderLaws.{IsIn}
 use Rattle.eon_model.proofs.ListLaws.{slice_get_in}
-use Rattle.make_room.specs.declared.heights.From.{From}
+use Rattle.make_room.specs.declared.heights.Side.{Side}
 use Rattle.make_room.specs.Heights.{begin_of, end_of}
 use Rattle.make_room.specs.Sweeps.{SettlesClear, clear_begin, centres_from}
 use Rattle.make_room.proofs.SideLaws.{Before, end-in, width-at, wide-units}
@@ -18,7 +18,7 @@ use Rattle.make_room.proofs.StandFacts.{wide}
 use Rattle.make_room.proofs.ExtremeFacts.{index_in, HeldByChannel, InOrder, begin_is, at_most, over_limit, in_order, held}
 
 module _ (setup : Setup) (state : State) (rest : AtRest state) (legal : Legal setup state)
-    (banded : is_band setup.band ≡ true) (from : From) (block : Units) (goes : ℕ → Service → Bool) (bounds settled : List ℕ)
+    (banded : is_band setup.band ≡ true) (from : Side) (block : Units) (goes : ℕ → Service → Bool) (bounds settled : List ℕ)
     (sc : SettlesClear from state block goes bounds settled) (does : Service → Bool)
     (goes_are : (i : ℕ) (s : Service) → slice_get state i ≡ Some s → goes i s ≡ does s) (q : Places)
     (order_q : InOrder from state q)

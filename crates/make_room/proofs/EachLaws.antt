@@ -3,7 +3,7 @@ use Rattle.std.proofs.Common.{◌≡◌, refl, sym, ◌∙◌, ap, subst, ℕ, z
 use Rattle.std.specs.Prelude.{slice_get, All}
 use Rattle.std.proofs.lemmas.List.{length-append}
 use Rattle.eon_model.specs.Services.{Service, State}
-use Rattle.make_room.specs.declared.heights.From.{From}
+use Rattle.make_room.specs.declared.heights.Side.{Side}
 use Rattle.make_room.specs.Sweeps.{IsEach, Begins, BeginsWithin}
 use Rattle.make_room.proofs.SettleSteps.{below_next, service_at}
 
@@ -40,7 +40,7 @@ module _ (P : ℕ → Service → ℕ → Type 0) (state : State) where
           (subst (λ (k : ℕ). P k o x) (sym same) (subst (λ (t : Service). P n t x) one is))
 
 -- begins lie in the grid
-pub begins_small : (from : From) (state : State) (xs : List ℕ) → IsEach (λ j. Begins from) state (length state) xs →
+pub begins_small : (from : Side) (state : State) (xs : List ℕ) → IsEach (λ j. Begins from) state (length state) xs →
     All (λ h. h ≤ 8192) xs
 begins_small from state xs h k d l =
     let near : k < length state = let c = h.count in omega (arith, c, l) in

@@ -16,7 +16,7 @@ use Rattle.eon_model.proofs.NameLaws.{names_equal}
 use Rattle.eon_model.specs.Lists.{all_pairs}
 use Rattle.std.specs.List.{list_all}
 use Rattle.eon_model.proofs.PlacedLaws.{names_differ}
-use Rattle.make_room.specs.declared.heights.From.{From}
+use Rattle.make_room.specs.declared.heights.Side.{Side}
 use Rattle.make_room.specs.Heights.{begin_of, end_of, centre_from}
 use Rattle.make_room.specs.Settling.{EndsAt, SettlesAt, HasSettled}
 use Rattle.make_room.specs.Sweeps.{centres_from}
@@ -54,7 +54,7 @@ names_apart (s ∷ state) (suc i) (suc j) a b differ e f other =
     (λ same. other (ap suc same))
 
 -- a channel ends before the other one, or a backup does
-pub record HeldByChannel (from : From) (state : State) (p : Places) (s o : Service) : Type 0 where
+pub record HeldByChannel (from : Side) (state : State) (p : Places) (s o : Service) : Type 0 where
   pub there : IsIn o state
   pub other : same_name o.name s.name ≡ false
   pub common : share_fibre o.leg.work.route s.leg.work.route ≡ true
@@ -62,14 +62,14 @@ pub record HeldByChannel (from : From) (state : State) (p : Places) (s o : Servi
   pub ends : end_of from (units_at p o) ≡ begin_of from (units_at p s)
 
 -- What is told of places in order: each is on the grid, and what came before on a common fibre still does.
-pub record InOrder (from : From) (state : State) (p : Places) : Type 0 where
+pub record InOrder (from : Side) (state : State) (p : Places) : Type 0 where
   pub grid : (s : Service) → IsIn s state → OnGrid (units_at p s)
   pub before : (o s : Service) → IsIn o state → IsIn s state → same_name o.name s.name ≡ false →
       share_fibre o.leg.work.route s.leg.work.route ≡ true →
       Before from (units_at own_places o) (units_at own_places s) → end_of from (units_at p o) ≤ begin_of from (units_at p s)
 
 module _ (setup : Setup) (state : State) (rest : AtRest state) (legal : Legal setup state)
-    (banded : is_band setup.band ≡ true) (from : From) (starts limits caps settled : List ℕ)
+    (banded : is_band setup.band ≡ true) (from : Side) (starts limits caps settled : List ℕ)
     (h : HasSettled state starts limits caps settled)
     (starts_are : (i : ℕ) (s : Service) → slice_get state i ≡ Some s → get_or starts i 0 ≡ begin_of from (units_at own_places s))
     (limits_in : (i : ℕ) (s : Service) → slice_get state i ≡ Some s → get_or limits i 0 ≤ get_or caps i 0)

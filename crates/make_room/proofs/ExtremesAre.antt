@@ -28,7 +28,7 @@ use Rattle.eon_model.proofs.TouchLaws.{IsRaised, CanGo-raised, CanGo-lowered}
 use Rattle.eon_model.proofs.GoingLaws.{CanGo}
 use Rattle.eon_model.proofs.ClearedLaws.{IsHeldUp, IsTop-raised}
 use Rattle.eon_model.proofs.SweptRoom.{highest-of_top}
-use Rattle.make_room.specs.declared.heights.From.TheVariants.{Floor, Ceiling}
+use Rattle.make_room.specs.declared.heights.Side.TheVariants.{Floor, Ceiling}
 use Rattle.make_room.specs.Heights.{begin_of}
 use Rattle.make_room.specs.Sweeps.{SettlesLeast, centres_from}
 use Rattle.make_room.proofs.SideLaws.{OnGrid, before-ends, ends-before, ends-right, centres_long, wide-units}

@@ -16,8 +16,8 @@ use Rattle.eon_model.proofs.ListLaws.{slice_get_in}
 use Rattle.eon_model.proofs.Members.{any-member}
 use Rattle.eon_model.proofs.FoundLaws.{found}
 use Rattle.eon_model.proofs.StandLaws.{own_can}
-use Rattle.make_room.specs.declared.heights.From.{From}
-use Rattle.make_room.specs.declared.heights.From.TheVariants.{Floor, Ceiling}
+use Rattle.make_room.specs.declared.heights.Side.{Side}
+use Rattle.make_room.specs.declared.heights.Side.TheVariants.{Floor, Ceiling}
 use Rattle.make_room.specs.Heights.{begin_of, end_of, base_of, end_before_of, backup_end_of, IsMaxTo}
 use Rattle.make_room.specs.Sweeps.{SettlesLeast, centres_from}
 use Rattle.make_room.proofs.SideLaws.{Before, NotPast, not_past-begins, begins-not_past, end-in}
@@ -25,12 +25,12 @@ use Rattle.make_room.proofs.StandFacts.{own_grid, own_wide, own_width, ends_befo
 use Rattle.make_room.proofs.ExtremeFacts.{index_in, HeldByChannel, InOrder, begin_is, at_most, over_limit, in_order, held}
 
 -- a part of the band around units, not past them
-around : (from : From) (q a : Units) → lies_in q a ≡ true → NotPast from q a
+around : (from : Side) (q a : Units) → lies_in q a ≡ true → NotPast from q a
 around Floor q a h = (lies_in-facts q a h).0
 around Ceiling q a h = (lies_in-facts q a h).1
 
 -- what a backup tells
-back_cases : (from : From) (s : Path) (o : Service) →
+back_cases : (from : Side) (s : Path) (o : Service) →
     (backup_end_of from s o ≡ 0)
     ⊎ ((b : Path) × (o.leg.back ≡ Some b) × (share_fibre b.route s.route ≡ true)
     × (end_of from (units_of b.slot) ≤ begin_of from (units_of s.slot)) × (backup_end_of from s o ≡ end_of from (units_of b.slot)))
@@ -51,14 +51,14 @@ back_cases from s o = by o.leg.back refl
           | inr f ↦ inl (there ∙ (λ i. cond (f i) (end_of from (units_of b.slot)) 0))
         ]
 
-back_on : (from : From) (s : Path) (o : Service) (b : Path) → o.leg.back ≡ Some b → share_fibre b.route s.route ≡ true →
+back_on : (from : Side) (s : Path) (o : Service) (b : Path) → o.leg.back ≡ Some b → share_fibre b.route s.route ≡ true →
     end_of from (units_of b.slot) ≤ begin_of from (units_of s.slot) → backup_end_of from s o ≡ end_of from (units_of b.slot)
 back_on from s o b e f h =
     ap (λ (r : Option Path). unwrap_or (option_map (end_before_of from s) r) 0) e
     ∙ (λ i. cond (f i && le-leb (end_of from (units_of b.slot)) (begin_of from (units_of s.slot)) h i) (end_of from (units_of b.slot)) 0)
 
 -- a backup ends before the channel
-pub record HeldByBackup (from : From) (state : State) (p : Places) (s o : Service) (b : Path) : Type 0 where
+pub record HeldByBackup (from : Side) (state : State) (p : Places) (s o : Service) (b : Path) : Type 0 where
   pub there : IsIn o state
   pub is : o.leg.back ≡ Some b
   pub common : share_fibre b.route s.leg.work.route ≡ true
@@ -66,7 +66,7 @@ pub record HeldByBackup (from : From) (state : State) (p : Places) (s o : Servic
   pub ends : end_of from (units_of b.slot) ≡ begin_of from (units_at p s)
 
 module _ (setup : Setup) (state : State) (rest : AtRest state) (legal : Legal setup state)
-    (banded : is_band setup.band ≡ true) (from : From) (settled : List ℕ) (sl : SettlesLeast from setup.band state settled) where
+    (banded : is_band setup.band ≡ true) (from : Side) (settled : List ℕ) (sl : SettlesLeast from setup.band state settled) where
   p : Places
   p = target_in state (centres_from from state settled)
 

@@ -10,8 +10,8 @@ use Rattle.eon_model.specs.Places.{target_in, Places}
 use Rattle.eon_model.proofs.GridLaws.{int_le-le}
 use Rattle.eon_model.proofs.PlacedLaws.{names_differ}
 use Rattle.eon_model.proofs.TargetLists.{map-target}
-use Rattle.make_room.specs.declared.heights.From.{From}
-use Rattle.make_room.specs.declared.heights.From.TheVariants.{Floor, Ceiling}
+use Rattle.make_room.specs.declared.heights.Side.{Side}
+use Rattle.make_room.specs.declared.heights.Side.TheVariants.{Floor, Ceiling}
 use Rattle.make_room.specs.Heights.{begin_of, end_of, centre_from}
 use Rattle.make_room.specs.Sweeps.{centres_from}
 
@@ -21,47 +21,47 @@ pub record OnGrid (u : Units) : Type 0 where
   pub high : u.hi ≤ℤ pos 4095
 
 -- it comes before the other one, seen from this side
-abbrev pub Before : From → Units → Units → Type 0
+abbrev pub Before : Side → Units → Units → Type 0
 Before Floor a b = a.hi <ℤ b.lo
 Before Ceiling a b = b.hi <ℤ a.lo
 
 -- and right before
-abbrev pub RightBefore : From → Units → Units → Type 0
+abbrev pub RightBefore : Side → Units → Units → Type 0
 RightBefore Floor a b = (a.hi +ℤ pos 1) ≡ b.lo
 RightBefore Ceiling a b = (b.hi +ℤ pos 1) ≡ a.lo
 
 -- not further from this side
-abbrev pub NotPast : From → Units → Units → Type 0
+abbrev pub NotPast : Side → Units → Units → Type 0
 NotPast Floor a b = a.lo ≤ℤ b.lo
 NotPast Ceiling a b = b.hi ≤ℤ a.hi
 
-pub before-ends : (from : From) (a b : Units) → a.lo ≤ℤ a.hi → b.lo ≤ℤ b.hi → OnGrid a → OnGrid b → Before from a b →
+pub before-ends : (from : Side) (a b : Units) → a.lo ≤ℤ a.hi → b.lo ≤ℤ b.hi → OnGrid a → OnGrid b → Before from a b →
     end_of from a ≤ begin_of from b
 before-ends Floor a b s t p q h = let l = p.low in let m = q.low in omega (arith, ints)
 before-ends Ceiling a b s t p q h = let l = p.high in let m = q.high in omega (arith, ints)
 
-pub ends-before : (from : From) (a b : Units) → a.lo ≤ℤ a.hi → b.lo ≤ℤ b.hi → OnGrid a → OnGrid b →
+pub ends-before : (from : Side) (a b : Units) → a.lo ≤ℤ a.hi → b.lo ≤ℤ b.hi → OnGrid a → OnGrid b →
     end_of from a ≤ begin_of from b → Before from a b
 ends-before Floor a b s t p q h = let l = p.low in let m = q.low in omega (arith, ints)
 ends-before Ceiling a b s t p q h = let l = p.high in let m = q.high in omega (arith, ints)
 
-pub ends-right : (from : From) (a b : Units) → a.lo ≤ℤ a.hi → b.lo ≤ℤ b.hi → OnGrid a → OnGrid b →
+pub ends-right : (from : Side) (a b : Units) → a.lo ≤ℤ a.hi → b.lo ≤ℤ b.hi → OnGrid a → OnGrid b →
     end_of from a ≡ begin_of from b → RightBefore from a b
 ends-right Floor a b s t p q h = let l = p.low in let m = q.low in omega (arith, ints)
 ends-right Ceiling a b s t p q h = let l = p.high in let m = q.high in omega (arith, ints)
 
-pub begins-not_past : (from : From) (a b : Units) → OnGrid a → OnGrid b → begin_of from a ≤ begin_of from b →
+pub begins-not_past : (from : Side) (a b : Units) → OnGrid a → OnGrid b → begin_of from a ≤ begin_of from b →
     NotPast from a b
 begins-not_past Floor a b p q h = let l = p.low in let m = q.low in omega (arith, ints)
 begins-not_past Ceiling a b p q h = let l = p.high in let m = q.high in omega (arith, ints)
 
-pub not_past-begins : (from : From) (a b : Units) → OnGrid a → OnGrid b → NotPast from a b →
+pub not_past-begins : (from : Side) (a b : Units) → OnGrid a → OnGrid b → NotPast from a b →
     begin_of from a ≤ begin_of from b
 not_past-begins Floor a b p q h = let l = p.low in let m = q.low in omega (arith, ints)
 not_past-begins Ceiling a b p q h = let l = p.high in let m = q.high in omega (arith, ints)
 
 -- apart, one comes before the other
-pub one_before : (from : From) (a b : Units) → (a.hi <ℤ b.lo) ⊎ (b.hi <ℤ a.lo) → Before from a b ⊎ Before from b a
+pub one_before : (from : Side) (a b : Units) → (a.hi <ℤ b.lo) ⊎ (b.hi <ℤ a.lo) → Before from a b ⊎ Before from b a
 one_before Floor a b h = h
 one_before Ceiling a b h = elim h [ inl x ↦ inr x | inr x ↦ inl x ]
 
@@ -70,28 +70,28 @@ one_before Ceiling a b h = elim h [ inl x ↦ inr x | inr x ↦ inl x ]
 slot_units : ℤ → ℕ → Units
 slot_units n m = record { lo = n -ℤ pos m; hi = (n +ℤ pos m) -ℤ pos 1 }
 
-pub begin-at : (from : From) (t m : ℕ) →
+pub begin-at : (from : Side) (t m : ℕ) →
     begin_of from (units_of (record { n = centre_from from m t; m = m })) ≡ t
 begin-at Floor t m = omega (arith, ints)
 begin-at Ceiling t m = omega (arith, ints)
 
-pub end-at : (from : From) (t m : ℕ) → 1 ≤ m →
+pub end-at : (from : Side) (t m : ℕ) → 1 ≤ m →
     end_of from (units_of (record { n = centre_from from m t; m = m })) ≡ t + (m + m)
 end-at Floor t m w = omega (arith, ints)
 end-at Ceiling t m w = omega (arith, ints)
 
-pub width-at : (from : From) (n : ℤ) (m : ℕ) → 1 ≤ m → OnGrid (units_of (record { n = n; m = m })) →
+pub width-at : (from : Side) (n : ℤ) (m : ℕ) → 1 ≤ m → OnGrid (units_of (record { n = n; m = m })) →
     end_of from (units_of (record { n = n; m = m })) ≡ begin_of from (units_of (record { n = n; m = m })) + (m + m)
 width-at Floor n m w g = let l = g.low in let h = g.high in omega (arith, ints)
 width-at Ceiling n m w g = let l = g.low in let h = g.high in omega (arith, ints)
 
 -- so it lies in the grid
-pub grid-at : (from : From) (t m : ℕ) → t + (m + m) ≤ 8192 →
+pub grid-at : (from : Side) (t m : ℕ) → t + (m + m) ≤ 8192 →
     OnGrid (units_of (record { n = centre_from from m t; m = m }))
 grid-at Floor t m h = record { low = omega (arith, ints); high = omega (arith, ints) }
 grid-at Ceiling t m h = record { low = omega (arith, ints); high = omega (arith, ints) }
 
-pub end-in : (from : From) (a : Units) → a.lo ≤ℤ a.hi → OnGrid a → end_of from a ≤ 8192
+pub end-in : (from : Side) (a : Units) → a.lo ≤ℤ a.hi → OnGrid a → end_of from a ≤ 8192
 end-in Floor a s g = let l = g.low in let h = g.high in omega (arith, ints)
 end-in Ceiling a s g = let l = g.low in let h = g.high in omega (arith, ints)
 
@@ -106,7 +106,7 @@ units_facts u h =
 
 -- ---- places that a list of heights tells
 
-centres-at : (from : From) (state : State) (ts : List ℕ) (i : ℕ) (s : Service) → length ts ≡ length state →
+centres-at : (from : Side) (state : State) (ts : List ℕ) (i : ℕ) (s : Service) → length ts ≡ length state →
     slice_get state i ≡ Some s →
     slice_get (centres_from from state ts) i ≡ Some (centre_from from s.leg.work.slot.m (get_or ts i 0))
 centres-at from [] ts i s e h = absurd cc
@@ -121,13 +121,13 @@ map-at f [] i s h = absurd cc
 map-at f (x ∷ state) zero s h = let is : x ≡ s = cc in ap (λ (y : Service). Some (f y)) is
 map-at f (x ∷ state) (suc i) s h = map-at f state i s h
 
-pub centres_long : (from : From) (state : State) (ts : List ℕ) → length ts ≡ length state →
+pub centres_long : (from : Side) (state : State) (ts : List ℕ) → length ts ≡ length state →
     length (centres_from from state ts) ≡ length state
 centres_long from [] ts e = refl
 centres_long from (s ∷ state) [] e = absurd (omega (arith, e))
 centres_long from (s ∷ state) (t ∷ ts) e = ap suc (centres_long from state ts (omega (arith, e)))
 
-pub place-at : (from : From) (setup : Setup) (state : State) (ts : List ℕ) → Legal setup state →
+pub place-at : (from : Side) (setup : Setup) (state : State) (ts : List ℕ) → Legal setup state →
     length ts ≡ length state → (i : ℕ) (s : Service) → slice_get state i ≡ Some s →
     target_in state (centres_from from state ts) s ≡ centre_from from s.leg.work.slot.m (get_or ts i 0)
 place-at from setup state ts legal long i s there =

@@ -19,7 +19,7 @@ use Rattle.eon_model.proofs.StandLaws.{CanStand, own_can}
 use Rattle.eon_model.proofs.PosedLaws.{FitsIn-own}
 use Rattle.eon_model.proofs.BackupLaws.{backup-path}
 use Rattle.eon_model.proofs.DriftLaws.{AreWide-legal}
-use Rattle.make_room.specs.declared.heights.From.{From}
+use Rattle.make_room.specs.declared.heights.Side.{Side}
 use Rattle.make_room.specs.Heights.{begin_of, end_of}
 use Rattle.make_room.proofs.SideLaws.{OnGrid, Before, before-ends, one_before, width-at, wide-units, units_facts}
 
@@ -73,7 +73,7 @@ module _ (setup : Setup) (state : State) (rest : AtRest state) (legal : Legal se
       (units_of b.slot).lo ≤ℤ (units_of b.slot).hi
   back_wide s b i e = wide-units b.slot.n b.slot.m (back_is s b i e).1
 
-  module _ (from : From) where
+  module _ (from : Side) where
     abbrev begins : Service → ℕ
     begins s = begin_of from (units_at own_places s)
 

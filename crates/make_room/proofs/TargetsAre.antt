@@ -13,7 +13,7 @@ use Rattle.eon_model.specs.Room.{is_low, is_high, is_under, is_above, goes_down,
 use Rattle.eon_model.proofs.SetLists.{same_test}
 use Rattle.eon_model.proofs.SlotSteps.{int_lt-of, of-int_lt}
 use Rattle.eon_model.proofs.LeewayLaws.{leeway_at}
-use Rattle.make_room.specs.declared.heights.From.TheVariants.{Floor, Ceiling}
+use Rattle.make_room.specs.declared.heights.Side.TheVariants.{Floor, Ceiling}
 use Rattle.make_room.specs.Heights.{begin_of, centre_from}
 use Rattle.make_room.specs.Sweeps.{SettlesLeast, SettlesClear, centres_from}
 use Rattle.make_room.specs.Sides.{ends_so, goes_so}

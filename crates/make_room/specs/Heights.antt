@@ -4,33 +4,33 @@ use Rattle.std.specs.Option.{option_map, unwrap_or}
 use Rattle.eon_model.specs.Grid.{Units, Band, units_of, lies_in}
 use Rattle.eon_model.specs.Route.{share_fibre}
 use Rattle.eon_model.specs.Services.{Path, Service, State}
-use Rattle.make_room.specs.declared.heights.From.{From}
-use Rattle.make_room.specs.declared.heights.From.TheVariants.{Floor, Ceiling}
+use Rattle.make_room.specs.declared.heights.Side.{Side}
+use Rattle.make_room.specs.declared.heights.Side.TheVariants.{Floor, Ceiling}
 
 -- how many units of the grid come before these
-abbrev pub begin_of : From → Units → ℕ
+abbrev pub begin_of : Side → Units → ℕ
 begin_of Floor u = nat_abs (u.lo +ℤ pos 4096)
 begin_of Ceiling u = nat_abs (pos 4095 -ℤ u.hi)
 
 -- before the first one behind them
-abbrev pub end_of : From → Units → ℕ
+abbrev pub end_of : Side → Units → ℕ
 end_of Floor u = nat_abs (u.hi +ℤ pos 4097)
 end_of Ceiling u = nat_abs (pos 4096 -ℤ u.lo)
 
 -- before the part of the band that holds the path, or before the path
-abbrev pub base_of : From → Band → Path → ℕ
+abbrev pub base_of : Side → Band → Path → ℕ
 base_of from band p =
     unwrap_or (option_map (begin_of from) (find (λ part. lies_in part (units_of p.slot)) band))
     (begin_of from (units_of p.slot))
 
 -- where a backup ends, if it comes before the path on a common fibre; else 0
-abbrev pub end_before_of : From → Path → Path → ℕ
+abbrev pub end_before_of : Side → Path → Path → ℕ
 end_before_of from p back =
     if share_fibre back.route p.route && nat_le (end_of from (units_of back.slot)) (begin_of from (units_of p.slot))
     then end_of from (units_of back.slot) else 0
 
 -- the backup of a service
-abbrev pub backup_end_of : From → Path → Service → ℕ
+abbrev pub backup_end_of : Side → Path → Service → ℕ
 backup_end_of from p o = unwrap_or (option_map (end_before_of from p) o.leg.back) 0
 
 -- The greatest of the number and of those of the first n services.
@@ -40,6 +40,6 @@ pub record IsMaxTo (f : Service → ℕ) (state : State) (base n top : ℕ) : Ty
   pub from : (top ≡ base) ⊎ ((j : ℕ) × ((o : Service) × (j < n) × (slice_get state j ≡ Some o) × (f o ≡ top)))
 
 -- the centre of a channel that is m times 12.5 GHz wide and begins at this height
-abbrev pub centre_from : From → ℕ → ℕ → ℤ
+abbrev pub centre_from : Side → ℕ → ℕ → ℤ
 centre_from Floor m at = pos (at + m) -ℤ pos 4096
 centre_from Ceiling m at = pos 4096 -ℤ pos (at + m)

@@ -3,12 +3,12 @@ use Rattle.std.specs.Prelude.{ℕ, nat_le, ◌+◌, int_lt, Bool, ◌&&◌, ◌|
 use Rattle.eon_model.specs.Grid.{units_of}
 use Rattle.eon_model.specs.Route.{share_fibre}
 use Rattle.eon_model.specs.Services.{Path, Service}
-use Rattle.make_room.specs.declared.heights.From.{From}
-use Rattle.make_room.specs.declared.heights.From.TheVariants.{Floor, Ceiling}
+use Rattle.make_room.specs.declared.heights.Side.{Side}
+use Rattle.make_room.specs.declared.heights.Side.TheVariants.{Floor, Ceiling}
 use Rattle.make_room.specs.Heights.{begin_of}
 
 -- it ends before the block, from this side
-abbrev pub ends_so : From → Path → Path → ℕ → Bool
+abbrev pub ends_so : Side → Path → Path → ℕ → Bool
 ends_so from block path at =
     share_fibre path.route block.route
     && nat_le (at + (path.slot.m + path.slot.m)) (begin_of from (units_of block.slot))
@@ -23,11 +23,11 @@ abbrev pub up_so : Path → Path → ℕ → ℕ → Bool
 up_so block path low high = ends_so Ceiling block path high && not (down_so block path low high)
 
 -- beyond it, from the side of the sweep
-abbrev pub beyond_so : From → Path → Path → ℕ → ℕ → Bool
+abbrev pub beyond_so : Side → Path → Path → ℕ → ℕ → Bool
 beyond_so Ceiling block path low high = down_so block path low high
 beyond_so Floor block path low high = up_so block path low high
 
 -- so does the channel of each service
-abbrev pub goes_so : From → Path → List ℕ → List ℕ → ℕ → Service → Bool
+abbrev pub goes_so : Side → Path → List ℕ → List ℕ → ℕ → Service → Bool
 goes_so from block lows highs j s =
     beyond_so from block s.leg.work (slice_index_or lows j 0) (slice_index_or highs j 0)

@@ -6,13 +6,13 @@ use Rattle.eon_model.specs.Legal.{Setup, Legal}
 use Rattle.eon_model.specs.Drift.{AreLowest}
 use Rattle.eon_model.specs.Places.{AtRest}
 use Rattle.eon_model.specs.Room.{AreHighest, leeways_of, AreDownTargets, AreUpTargets}
-use Rattle.make_room.specs.declared.heights.From.{From}
-use Rattle.make_room.specs.declared.heights.From.TheVariants.{Floor, Ceiling}
+use Rattle.make_room.specs.declared.heights.Side.{Side}
+use Rattle.make_room.specs.declared.heights.Side.TheVariants.{Floor, Ceiling}
 use Rattle.make_room.specs.declared.targets.Targets.{Targets}
 use Rattle.make_room.specs.Sweeps.{centres_from}
 
 -- the bounds of a sweep: the places at the end to which it goes
-abbrev pub bounds_from : From → List ℕ → List ℕ → List ℕ
+abbrev pub bounds_from : Side → List ℕ → List ℕ → List ℕ
 bounds_from Ceiling lows highs = lows
 bounds_from Floor lows highs = highs
 

@@ -13,7 +13,7 @@ pub(crate) const GRID: u16 = 8192;
 
 /// From where heights are counted.
 #[derive(Clone, Copy, Debug, PartialEq, Eq)]
-pub enum From {
+pub enum Side {
     /// From the lowest unit of the grid up.
     Floor,
     /// From its highest unit down.
@@ -21,29 +21,29 @@ pub enum From {
 }
 
 // How many units of the grid come before these.
-pub(crate) fn begin(from: From, units: &Units) -> u16
+pub(crate) fn begin(from: Side, units: &Units) -> u16
     ensures value { result ≡ begin_of from units.now }
     ensures small { result < 8192 }
 {
     match from {
-        From::Floor => (i32::from(units.lo()) + 4096) as u16,
-        From::Ceiling => (4095 - i32::from(units.hi())) as u16,
+        Side::Floor => (i32::from(units.lo()) + 4096) as u16,
+        Side::Ceiling => (4095 - i32::from(units.hi())) as u16,
     }
 }
 
 // How many units come before the first one behind these.
-pub(crate) fn end(from: From, units: &Units) -> u16
+pub(crate) fn end(from: Side, units: &Units) -> u16
     ensures value { result ≡ end_of from units.now }
     ensures small { result ≤ 8192 }
 {
     match from {
-        From::Floor => (i32::from(units.hi()) + 4097) as u16,
-        From::Ceiling => (4096 - i32::from(units.lo())) as u16,
+        Side::Floor => (i32::from(units.hi()) + 4097) as u16,
+        Side::Ceiling => (4096 - i32::from(units.lo())) as u16,
     }
 }
 
 // Where the part of the band begins in which the path stands; where the path does, if it stands in none.
-fn base(from: From, band: &Band, path: &Path) -> u16
+fn base(from: Side, band: &Band, path: &Path) -> u16
     ensures value { result ≡ base_of from band.now path.now }
     ensures small { result < 8192 }
 {
@@ -55,7 +55,7 @@ fn base(from: From, band: &Band, path: &Path) -> u16
 }
 
 // Where the backup ends, if it comes before the path on a common fibre; else 0.
-fn end_before(from: From, back: &Path, path: &Path) -> u16
+fn end_before(from: Side, back: &Path, path: &Path) -> u16
     ensures { result ≡ end_before_of from path.now back.now }
 {
     let end = end(from, &back.slot.units());
@@ -66,7 +66,7 @@ fn end_before(from: From, back: &Path, path: &Path) -> u16
 }
 
 // The same for the backup of a service, 0 where it has none.
-fn backup_end(from: From, other: &Service, path: &Path) -> u16
+fn backup_end(from: Side, other: &Service, path: &Path) -> u16
     ensures { result ≡ backup_end_of from path.now other.now }
 {
     match &other.leg.back {
@@ -76,7 +76,7 @@ fn backup_end(from: From, other: &Service, path: &Path) -> u16
 }
 
 // The greatest of where the path's part of the band begins and of where backups end before the path on common fibres.
-pub(crate) fn least_begin(from: From, services: &Services, band: &Band, path: &Path) -> u16
+pub(crate) fn least_begin(from: Side, services: &Services, band: &Band, path: &Path) -> u16
     ensures { IsMaxTo (backup_end_of from path.now) services.now.list (base_of from band.now path.now) (length services.now.list) result }
 {
     let mut least = base(from, band, path);

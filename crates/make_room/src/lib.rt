@@ -11,6 +11,6 @@ mod sweeps;
 pub mod targets;
 
 pub use flex_grid::band::Band;
-pub use heights::From;
+pub use heights::Side;
 pub use leg_state::{Path, Services};
 pub use targets::{Targets, room_targets};

@@ -3,14 +3,14 @@
 ghost use Rattle.std.specs.Prelude.{◌≡◌, ◌<◌, length, IfOk};
 ghost use Rattle.make_room.specs.Sweeps.{IsEach, Begins, BeginsLeast, SettlesLeast};
 
-use crate::heights::{From, begin, least_begin};
+use crate::heights::{Side, begin, least_begin};
 use crate::settle::settled;
 use flex_grid::band::Band;
 use leg_state::{Service, Services};
 use std::alloc::{AllocError, Global};
 
 // Where the channel of the service begins.
-pub(crate) fn channel_begin(from: From, service: &Service) -> u16
+pub(crate) fn channel_begin(from: Side, service: &Service) -> u16
     ensures { Begins from service.now result }
 {
     let path = &service.leg.work;
@@ -18,7 +18,7 @@ pub(crate) fn channel_begin(from: From, service: &Service) -> u16
 }
 
 // Where each channel begins, in list order.
-pub(crate) fn begins(alloc: Global, from: From, services: &Services) -> Result<Vec<u16>, AllocError>
+pub(crate) fn begins(alloc: Global, from: Side, services: &Services) -> Result<Vec<u16>, AllocError>
     ensures { IfOk result (λ r. IsEach (λ j. Begins from) services.now.list (length services.now.list) r.items) }
 {
     let mut begins = Vec::new(alloc);
@@ -29,7 +29,7 @@ pub(crate) fn begins(alloc: Global, from: From, services: &Services) -> Result<V
 }
 
 // The least height at which the channel of the service may begin.
-fn channel_least(from: From, services: &Services, band: &Band, service: &Service) -> u16
+fn channel_least(from: Side, services: &Services, band: &Band, service: &Service) -> u16
     ensures { BeginsLeast from band.now services.now.list service.now result }
 {
     least_begin(from, services, band, &service.leg.work)
@@ -38,7 +38,7 @@ fn channel_least(from: From, services: &Services, band: &Band, service: &Service
 // The least height at which each channel may begin, in list order.
 fn least_begins(
     alloc: Global,
-    from: From,
+    from: Side,
     services: &Services,
     band: &Band,
 ) -> Result<Vec<u16>, AllocError>
@@ -54,7 +54,7 @@ fn least_begins(
 // How low each channel can drift, or how high, in list order.
 pub(crate) fn extremes(
     alloc: Global,
-    from: From,
+    from: Side,
     services: &Services,
     band: &Band,
 ) -> Result<Vec<u16>, AllocError>

@@ -6,7 +6,7 @@ ghost use Rattle.make_room.specs.Sweeps.{IsEach, BeginsClear, BeginsWithin, Sett
 ghost use Rattle.make_room.specs.Sides.{beyond_so, goes_so};
 ghost use Rattle.make_room.specs.Targets.{bounds_from, TellsTargets};
 
-use crate::heights::{From, GRID, end};
+use crate::heights::{GRID, Side, end};
 use crate::settle::settled;
 use crate::sides::goes_beyond;
 use crate::sweeps::{begins, channel_begin, extremes};
@@ -29,7 +29,7 @@ pub struct Targets {
 }
 
 // The least height at which the channel of the service may begin: its own, and behind the block where it goes beyond it.
-fn channel_clear(from: From, block: &Path, service: &Service, low: u16, high: u16) -> u16
+fn channel_clear(from: Side, block: &Path, service: &Service, low: u16, high: u16) -> u16
     requires low { low ≤ 8192 }
     requires high { high ≤ 8192 }
     ensures { result ≡ clear_begin from (units_of block.now.slot) (beyond_so from block.now service.now.leg.work low high) service.now }
@@ -44,7 +44,7 @@ fn channel_clear(from: From, block: &Path, service: &Service, low: u16, high: u1
 // Those of all channels, in list order.
 fn clear_begins(
     alloc: Global,
-    from: From,
+    from: Side,
     services: &Services,
     block: &Path,
     lows: &[u16],
@@ -98,7 +98,7 @@ fn bounds(alloc: Global, services: &Services, heights: &[u16]) -> Result<Vec<u16
 // How far each channel may go in a sweep from this side: to its place at the other end.
 fn bounds_beyond(
     alloc: Global,
-    from: From,
+    from: Side,
     services: &Services,
     lows: &[u16],
     highs: &[u16],
@@ -110,15 +110,15 @@ fn bounds_beyond(
     ensures { IfOk result (λ r. IsEach (BeginsWithin (bounds_from from lows.now highs.now)) services.now.list (length services.now.list) r.items) }
 {
     match from {
-        From::Ceiling => bounds(alloc, services, lows),
-        From::Floor => bounds(alloc, services, highs),
+        Side::Ceiling => bounds(alloc, services, lows),
+        Side::Floor => bounds(alloc, services, highs),
     }
 }
 
 // Where each channel settles that goes no further than the block asks, in list order.
 fn clear(
     alloc: Global,
-    from: From,
+    from: Side,
     services: &Services,
     block: &Path,
     lows: &[u16],
@@ -150,10 +150,10 @@ pub fn room_targets(
 {
     // Read for what a slot keeps.
     let _ = block.slot.m();
-    let lows = extremes(alloc, From::Floor, services, band)?;
-    let highs = extremes(alloc, From::Ceiling, services, band)?;
-    let downs = clear(alloc, From::Ceiling, services, block, &lows, &highs)?;
-    let ups = clear(alloc, From::Floor, services, block, &lows, &highs)?;
+    let lows = extremes(alloc, Side::Floor, services, band)?;
+    let highs = extremes(alloc, Side::Ceiling, services, band)?;
+    let downs = clear(alloc, Side::Ceiling, services, block, &lows, &highs)?;
+    let ups = clear(alloc, Side::Floor, services, block, &lows, &highs)?;
     Ok(Targets {
         lows,
         highs,

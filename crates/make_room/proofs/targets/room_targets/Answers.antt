@@ -1,7 +1,7 @@
 use Rattle.std.proofs.Common.{◌≡◌, sym, ◌∙◌, ap, subst, ℕ, List, true}
 use Rattle.eon_model.specs.Grid.{Band, units_of, is_slot, is_band}
 use Rattle.eon_model.specs.Services.{Path}
-use Rattle.make_room.specs.declared.heights.From.TheVariants.{Floor, Ceiling}
+use Rattle.make_room.specs.declared.heights.Side.TheVariants.{Floor, Ceiling}
 use Rattle.make_room.specs.Sweeps.{SettlesLeast, SettlesClear}
 use Rattle.make_room.specs.Sides.{goes_so}
 use Rattle.make_room.proofs.TargetsAre.{lows_are, highs_are, downs_are, ups_are}
