@@ -12,20 +12,24 @@ use Rattle.kept_routes.specs.Kept.{found_by, AreFound}
 
 -- ---- equal searches
 
-same_fibre : (a b : Option ℕ) → option_eq nat_eq a b ≡ true → a ≡ b
-same_fibre None None h = refl
-same_fibre None (Some y) h = absurd (false≢true h)
-same_fibre (Some x) None h = absurd (false≢true h)
-same_fibre (Some x) (Some y) h = ap Some (eqb-true x y h)
+same_number : (a b : Option ℕ) → option_eq nat_eq a b ≡ true → a ≡ b
+same_number None None h = refl
+same_number None (Some y) h = absurd (false≢true h)
+same_number (Some x) None h = absurd (false≢true h)
+same_number (Some x) (Some y) h = ap Some (eqb-true x y h)
 
-pub same-search : (x y : Search) → (nat_eq x.s y.s && (nat_eq x.t y.t && option_eq nat_eq x.avoid y.avoid)) ≡ true → x ≡ y
+pub same-search : (x y : Search) →
+    (nat_eq x.s y.s && (nat_eq x.t y.t && (option_eq nat_eq x.avoid y.avoid && option_eq nat_eq x.behind y.behind))) ≡ true →
+    x ≡ y
 same-search x y h =
-    let p = and_parts (nat_eq x.s y.s) (nat_eq x.t y.t && option_eq nat_eq x.avoid y.avoid) h in
-    let q = and_parts (nat_eq x.t y.t) (option_eq nat_eq x.avoid y.avoid) p.1 in
+    let p = and_parts (nat_eq x.s y.s) (nat_eq x.t y.t && (option_eq nat_eq x.avoid y.avoid && option_eq nat_eq x.behind y.behind)) h in
+    let q = and_parts (nat_eq x.t y.t) (option_eq nat_eq x.avoid y.avoid && option_eq nat_eq x.behind y.behind) p.1 in
+    let r = and_parts (option_eq nat_eq x.avoid y.avoid) (option_eq nat_eq x.behind y.behind) q.1 in
     let s = eqb-true x.s y.s p.0 in
     let t = eqb-true x.t y.t q.0 in
-    let avoid = same_fibre x.avoid y.avoid q.1 in
-    λ i. record { s = s i; t = t i; avoid = avoid i }
+    let avoid = same_number x.avoid y.avoid r.0 in
+    let behind = same_number x.behind y.behind r.1 in
+    λ i. record { s = s i; t = t i; avoid = avoid i; behind = behind i }
 
 module _ (eq : Search → Search → Bool) (sound : (x y : Search) → eq x y ≡ true → x ≡ y) (setup : Setup) where
   -- one more entry

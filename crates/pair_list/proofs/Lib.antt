@@ -3,3 +3,4 @@ pub mod BanLaws
 pub mod FoundLaws
 pub mod SizedLaws
 pub mod RunLaws
+pub mod GivenLaws

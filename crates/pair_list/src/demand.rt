@@ -21,7 +21,7 @@ use std::sync::ledger::{Blank, Ledger};
 /// The candidates of a demand, in the order in which they are tried. There are at most 256.
 #[derive(Drop)]
 pub struct PairList {
-    pairs: Vec<Pair>,
+    pub(crate) pairs: Vec<Pair>,
 }
 
 impl Model for PairList {
@@ -66,11 +66,11 @@ impl PairList {
 
 // What is asked: the two nodes, the rate in Gbit/s, and whether there is a backup.
 #[derive(Clone, Copy)]
-struct Demand {
-    s: u8,
-    t: u8,
-    rate: u32,
-    class: Class,
+pub(crate) struct Demand {
+    pub(crate) s: u8,
+    pub(crate) t: u8,
+    pub(crate) rate: u32,
+    pub(crate) class: Class,
 
     ghost some_rate: { 1 ≤ rate },
     ghost rate_limit: { rate ≤ 60000 },
@@ -98,7 +98,7 @@ fn put_backup(
 }
 
 // Puts the working route with each of these backups that the rate reaches over behind the pairs.
-fn put_backups(
+pub(crate) fn put_backups(
     alloc: Global,
     setup: &NetSetup,
     demand: Demand,

@@ -5,11 +5,13 @@ ghost use Rattle.std.specs.Option.{option_and_then};
 ghost use Rattle.eon_model.specs.Candidates.{max_reach, sized};
 ghost use Rattle.eon_model.specs.Routes.{first_routes};
 ghost use Rattle.eon_model.specs.Sets.{has_member};
+ghost use Rattle.pair_list.specs.Given.{backups_of};
 ghost use Rattle.pair_list.specs.Runs.{runs_within, most_within};
 
+use crate::sharers::sharers;
 use eon_base::steps::Steps;
 use leg_state::Spare;
-use net_graph::{FibreSet, RouteList};
+use net_graph::{FibreSet, Route, RouteList};
 use net_setup::NetSetup;
 use reach_table::table::need;
 use route_list::routes;
@@ -70,6 +72,23 @@ pub fn routes_within(
     ensures { IfOk result (λ rs. rs ≡ first_routes setup.now.network s t (has_member banned.now) setup.now.k (max_reach setup.now.formats)) }
 {
     routes_within_blank::<Brand>(Blank::new(1), alloc, setup, s, t, banned)
+}
+
+/// The first routes from node `s` to node `t` that are within the greatest reach of the table and share no group with the
+/// working route, in the order of `routes_within`.
+pub fn backups_of(
+    alloc: Global,
+    setup: &NetSetup,
+    s: u8,
+    t: u8,
+    work: &Route,
+) -> Result<RouteList, AllocError>
+    requires source { s < length setup.now.network.nodes }
+    requires target { t < length setup.now.network.nodes }
+    ensures { IfOk result (λ rs. rs ≡ backups_of setup.now s t work.now) }
+{
+    let banned = sharers(&setup.net, &work.risk());
+    routes_within(alloc, setup, s, t, &banned)
 }
 
 /// The route at this place with the slot width that the rate needs; None where no format reaches so far.
