@@ -1,0 +1,5 @@
+pub mod MovedStates
+pub mod Verdicts
+pub mod Flights
+pub mod JudgeSteps
+pub mod BadSteps
