@@ -4,14 +4,18 @@ use Rattle.std.specs.Prelude.{IfSome, IsSomeAnd, IsSome, is_some, ⊤}
 use Rattle.std.specs.FinMap.{get}
 use Rattle.std.specs.Io.KnownBytes.{Appends}
 use Rattle.std.proofs.lemmas.List.{take-append-drop}
-use Rattle.std.proofs.lemmas.Bool.{both_ways}
+use Rattle.std.proofs.lemmas.Bool.{both_ways, false≢true}
 use Rattle.eon_model.specs.Legal.{Setup}
 use Rattle.eon_model.specs.Events.{Event}
 use Rattle.eon_model.specs.NetworkText.{IsNetworkTextOf}
-use Rattle.eon_model.specs.Journal.{Stands}
+use Rattle.eon_model.specs.Journal.{left_at, Stands}
 use Rattle.eon_model.specs.JournalFault.{IsKept, IsRefusedAt}
 use Rattle.eon_model.specs.Replay.{replay}
-use Rattle.eon_model.specs.TopLines.{init_line, replay_text}
+use Rattle.eon_model.specs.TopLines.{init_line, replay_text, migrate_line}
+use Rattle.eon_model.specs.Wider.{Widens, first_narrower}
+use Rattle.eon_model.proofs.JournalLaws.{Stands-place}
+use Rattle.eon_model.proofs.WiderLaws.{narrower_told}
+use Rattle.net_widening.specs.Told.{wide_told}
 use Rattle.eon_model.proofs.TextNumbers.{some_is}
 use Rattle.eon_model.proofs.NetworkUniqueLaws.{network_text-unique}
 use Rattle.eon_model.proofs.RefusalLaws.{standing-not_refused, standing-not_other}
@@ -27,15 +31,17 @@ use Rattle.eon_outside.specs.WholeFile.{IsFile}
 use Rattle.journal_replay.specs.Replayed.{why_told}
 use Rattle.plan_journal.proofs.MomentLaws.{started}
 use Rattle.plan_serve.specs.declared.status.Status.{Status}
-use Rattle.plan_serve.specs.declared.status.Status.TheVariants.{Done, NetRefused, NetLong, ReadFault, DiskFault, JournalRefused, JournalOther, NotEmpty, Memory, WriteFault, InputLong}
+use Rattle.plan_serve.specs.declared.status.Status.TheVariants.{Done, NetRefused, NetLong, NextRefused, NextLong, NotWider, ReadFault, DiskFault, JournalRefused, JournalOther, NotEmpty, JournalFull, Memory, WriteFault, InputLong}
 use Rattle.plan_serve.specs.Files.{IsAcceptedFile, IsDigestedFile}
 use Rattle.plan_serve.specs.Outside.{Outside, Output, output_of, DiskSeen}
 use Rattle.eon_model.specs.Run.{situation}
 use Rattle.plan_serve.specs.Ends.{GoesOnBehind, EndsAtNetwork, DryEnds}
 use Rattle.plan_serve.specs.JournalEnds.{Tells, MakeEnds, InitEnds, TellEnds, ReplayEnds}
+use Rattle.plan_serve.specs.Binding.{IsFull}
+use Rattle.plan_serve.specs.MigrateEnds.{BindEnds, EndsAtNext, MigrateEnds, MayBeBound, behind, at_end}
 use Rattle.plan_serve.proofs.JournalModeLaws.{made_left}
 use Rattle.plan_serve.proofs.TopLaws.{some_left}
-use Rattle.plan_serve.specs.Top.{Ends, MayServe, MayMake, MayTell, MayEnd, MayBeLeft, NoDiskFault, HasRoom, IsRoomy}
+use Rattle.plan_serve.specs.Top.{Ends, MayServe, MayMake, MayTell, MayBind, MayEnd, MayBeLeft, NoDiskFault, HasRoom, IsRoomy}
 
 -- ---- what the words ask for
 
@@ -52,6 +58,7 @@ abbrev pub IsThereFor : Task → Option NamedFiles → Type 0
 IsThereFor (Dry net commands) files = IsThere files net × IsThere files commands
 IsThereFor (Init net journal) files = IsThere files net
 IsThereFor (Replay net journal) files = IsThere files net
+IsThereFor (Migrate net next journal) files = IsThere files net × IsThere files next
 IsThereFor t files = ⊤
 
 -- ---- one file, one network
@@ -181,6 +188,84 @@ replay_done told net journal bytes before now old new status files disk h may no
       goes k.1.3 no_write no_disk
 ]
 
+-- the wider network is not refused
+next_done : (told : NamedFiles) (next : List ℕ) (setup wider : Setup) → IsAcceptedFile (Some told) next wider →
+    Widens setup wider → (before now : Outside) → before.files ≡ Some told → (status : Status) →
+    EndsAtNext setup next before now status → (status ≡ ReadFault → ⊥) → status ≡ Memory
+next_done told next setup wider good w before now files Memory h no_read = refl
+next_done told next setup wider good w before now files ReadFault h no_read = absurd (no_read refl)
+next_done told next setup wider good w before now files (NextRefused number why) h no_read =
+    let bad = h.1 in
+    absurd (bad.no_text wider (subst (λ (v : List ℕ). IsNetworkTextOf v wider)
+    (one_file told next good.0 bad.bytes good.1 (same_file told before.files next bad.bytes files bad.told)) good.2.text))
+next_done told next setup wider good w before now files NextLong h no_read =
+    let bad = h.1 in
+    let short = good.2.short in
+    let same : length good.0 ≡ length bad.0 =
+    ap length (one_file told next good.0 bad.0 good.1 (same_file told before.files next bad.0 files bad.1)) in
+    let long = bad.2 in
+    absurd (omega arith)
+next_done told next setup wider good w before now files (NotWider what) h no_read =
+    let other = h.1.0 in
+    let file = h.1.1 in
+    let same = one_file told next file.0 good.0 (same_file told before.files next file.0 files file.1) good.1 in
+    let one : other ≡ wider =
+    network_text-unique other wider file.2.text.in_range good.2.text.in_range (sym file.2.text.is ∙ same ∙ good.2.text.is) in
+    absurd (some_none (sym h.1.2 ∙ ap (first_narrower setup) one ∙ (narrower_told setup wider).0 w))
+  where
+    some_none : {A : Type 0} {x : A} → Some x ≡ None → ⊥
+    some_none e = cc
+next_done told next setup wider good w before now files _ h no_read = absurd h
+
+bind_done : (net next : Setup) (own digest journal bytes : List ℕ) (before now : Output) (old new : DiskSeen) (status : Status)
+    (events : List Event) (place : ℕ) → old.bytes ≡ Some bytes → Stands bytes own net.journal events place →
+    IsSome (replay net events) → 40 ≤ left_at net.journal place →
+    BindEnds net next own digest journal before now old new status →
+    (status ≡ WriteFault → ⊥) → (status ≡ DiskFault → ⊥) → (status ≡ Done) ⊎ (status ≡ Memory)
+bind_done net next own digest journal bytes before now old new Done events place told stands goes room h no_write no_disk = inl refl
+bind_done net next own digest journal bytes before now old new Memory events place told stands goes room h no_write no_disk = inr refl
+bind_done net next own digest journal bytes before now old new WriteFault events place told stands goes room h no_write no_disk =
+    absurd (no_write refl)
+bind_done net next own digest journal bytes before now old new DiskFault events place told stands goes room h no_write no_disk =
+    absurd (no_disk refl)
+bind_done net next own digest journal bytes before now old new (JournalRefused at why) events place told stands goes room h no_write no_disk =
+    absurd (standing-not_refused net bytes own events place at (why_told why) stands goes
+    (told_bytes old.bytes bytes (λ b. IsRefusedAt net b own at (why_told why)) told h.2))
+bind_done net next own digest journal bytes before now old new (JournalOther kept mine) events place told stands goes room h no_write no_disk =
+    let k = told_bytes old.bytes bytes (λ b. IsKept b net.journal kept × (kept ≢ own) × (mine ≡ own)) told h.2 in
+    absurd (standing-not_other net bytes own events place stands (record { kept = kept; keeps = k.0; differs = k.1 }))
+bind_done net next own digest journal bytes before now old new (JournalFull needed left) events place told stands goes room h no_write no_disk =
+    let full = told_bytes old.bytes bytes (λ b. IsFull net b own needed left new.bytes) told h.1 in
+    let few = full.few in
+    let is : left ≡ left_at net.journal place =
+    full.left_is ∙ ap (left_at net.journal) (Stands-place bytes own own net.journal net.journal full.events events full.place place
+    full.replays.stands stands) in
+    absurd (omega (arith, few, is, room))
+bind_done net next own digest journal bytes before now old new _ events place told stands goes room h no_write no_disk = absurd h.2
+
+migrate_done : (told : NamedFiles) (net next journal bytes : List ℕ) (before now : Outside) (old new : DiskSeen)
+    (status : Status) → before.files ≡ Some told → old.bytes ≡ Some bytes →
+    MigrateEnds net next journal before now old new status → MayBind told net next bytes → (status ≡ ReadFault → ⊥) →
+    (status ≡ WriteFault → ⊥) → (status ≡ DiskFault → ⊥) → (status ≡ Done) ⊎ (status ≡ Memory)
+migrate_done told net next journal bytes before now old new status files disk h may no_read no_write no_disk = elim h [
+  | inl k ↦ inr (accepted_ends told net may.setup (may.network.bytes, may.network.told, may.network.accepted) before now files
+      status k.1 no_read)
+  | inr k ↦
+      let same = one_network told before.files net k.0 may.setup k.1 may.own files k.2 may.network in
+      let stands = subst (λ (d : List ℕ). Stands bytes d k.0.journal may.events may.place) (sym same.digest)
+      (subst (λ (s : Setup). Stands bytes may.own s.journal may.events may.place) (sym same.setup) may.stands) in
+      let goes = subst (λ (s : Setup). IsSome (replay s may.events)) (sym same.setup) may.replays in
+      let room = subst (λ (s : Setup). 40 ≤ left_at s.journal may.place) (sym same.setup) may.room in
+      let w = subst (λ (s : Setup). Widens s may.wider) (sym same.setup) may.widens in
+      elim k.3 [
+        | inl j ↦ inr (next_done told next k.0 may.wider
+            (may.next_network.bytes, may.next_network.told, may.next_network.accepted) w (behind net before) (at_end now) files
+            status j.1 no_read)
+        | inr j ↦ bind_done k.0 j.1.0 k.1 j.1.1 journal bytes (output_of (behind net before)) (output_of (at_end now)) old new
+            status may.events may.place disk stands goes room j.1.3.1 no_write no_disk
+      ]
+]
+
 -- ---- all modes
 
 done : (task : Option Task) (before now : Outside) (old new : DiskSeen) (status : Status) →
@@ -200,7 +285,10 @@ done (Some (Replay net journal)) before now old new status None bytes is disk h 
 done (Some (Replay net journal)) before now old new status (Some told) None is disk h may no_read no_write no_disk = absurd may
 done (Some (Serve net journal commands)) before now old new status files bytes is disk h may no_read no_write no_disk = absurd may
 done (Some (Drive net seed count)) before now old new status files bytes is disk h may no_read no_write no_disk = absurd may
-done (Some (Migrate net next journal)) before now old new status files bytes is disk h may no_read no_write no_disk = absurd may
+done (Some (Migrate net next journal)) before now old new status (Some told) (Some bytes) is disk h may no_read no_write no_disk =
+    migrate_done told net next journal bytes before now old new status is disk h may no_read no_write no_disk
+done (Some (Migrate net next journal)) before now old new status None bytes is disk h may no_read no_write no_disk = absurd may
+done (Some (Migrate net next journal)) before now old new status (Some told) None is disk h may no_read no_write no_disk = absurd may
 done (Some (Live net journal commands)) before now old new status files bytes is disk h may no_read no_write no_disk = absurd may
 done (Some (Room net journal commands)) before now old new status files bytes is disk h may no_read no_write no_disk = absurd may
 done None before now old new status files bytes is disk h may no_read no_write no_disk = absurd may
@@ -215,7 +303,10 @@ read_counted (Some (Replay net journal)) before now old new h =
     elim h.1 [ inl k ↦ k.1.0 | inr k ↦ absurd k.1.3.1.3 ]
 read_counted (Some (Serve net journal commands)) before now old new h = absurd h
 read_counted (Some (Drive net seed count)) before now old new h = absurd h
-read_counted (Some (Migrate net next journal)) before now old new h = absurd h
+read_counted (Some (Migrate net next journal)) before now old new h = elim h [
+  | inl k ↦ k.1.0
+  | inr k ↦ elim k.3 [ inl j ↦ j.1.1 | inr j ↦ absurd j.1.3.1.2 ]
+]
 read_counted (Some (Live net journal commands)) before now old new h = absurd h
 read_counted (Some (Room net journal commands)) before now old new h = absurd h
 read_counted None before now old new h = absurd h
@@ -228,7 +319,10 @@ write_counted (Some (Replay net journal)) before now old new h =
     elim h.1 [ inl k ↦ absurd k.1 | inr k ↦ k.1.3.1.3.1 ]
 write_counted (Some (Serve net journal commands)) before now old new h = absurd h
 write_counted (Some (Drive net seed count)) before now old new h = absurd h
-write_counted (Some (Migrate net next journal)) before now old new h = absurd h
+write_counted (Some (Migrate net next journal)) before now old new h = elim h [
+  | inl k ↦ absurd k.1
+  | inr k ↦ elim k.3 [ inl j ↦ absurd j.1 | inr j ↦ j.1.3.1.2.1 ]
+]
 write_counted (Some (Live net journal commands)) before now old new h = absurd h
 write_counted (Some (Room net journal commands)) before now old new h = absurd h
 write_counted None before now old new h = absurd h
@@ -241,7 +335,10 @@ disk_counted (Some (Replay net journal)) before now old new h none =
     elim h.1 [ inl k ↦ k.1 | inr k ↦ none k.1.3.0.1 ]
 disk_counted (Some (Serve net journal commands)) before now old new h none = h
 disk_counted (Some (Drive net seed count)) before now old new h none = h
-disk_counted (Some (Migrate net next journal)) before now old new h none = h
+disk_counted (Some (Migrate net next journal)) before now old new h none = elim h [
+  | inl k ↦ k.1
+  | inr k ↦ elim k.3 [ inl j ↦ j.1 | inr j ↦ none j.1.3.1.0.1 ]
+]
 disk_counted (Some (Live net journal commands)) before now old new h none = h
 disk_counted (Some (Room net journal commands)) before now old new h none = h
 disk_counted None before now old new h none = h
@@ -327,7 +424,13 @@ broken (Some (Replay net journal)) before now disk later old new h roomy same co
 ]
 broken (Some (Serve net journal commands)) before now disk later old new h roomy same counts sure = h
 broken (Some (Drive net seed count)) before now disk later old new h roomy same counts sure = h
-broken (Some (Migrate net next journal)) before now disk later old new h roomy same counts sure = h
+broken (Some (Migrate net next journal)) before now disk later old new h roomy same counts sure = elim h [
+  | inl k ↦ k.1
+  | inr k ↦ elim k.3 [
+    | inl j ↦ j.1
+    | inr j ↦ tells_broken migrate_line (output_of before) (output_of now) old new j.1.3.1.2 roomy same counts sure
+  ]
+]
 broken (Some (Live net journal commands)) before now disk later old new h roomy same counts sure = h
 broken (Some (Room net journal commands)) before now disk later old new h roomy same counts sure = h
 broken None before now disk later old new h roomy same counts sure = h
@@ -362,28 +465,43 @@ there task t files bytes is may = by_task t files bytes (subst (λ (v : Option T
     by_task (Replay net journal) (Some told) None may = absurd may
     by_task (Serve net journal commands) files bytes may = absurd may
     by_task (Drive net seed count) files bytes may = absurd may
-    by_task (Migrate net next journal) files bytes may = absurd may
+    by_task (Migrate net next journal) (Some told) (Some bytes) may = (
+      is_there told net may.network.bytes may.network.told,
+      is_there told next may.next_network.bytes may.next_network.told,
+    )
+    by_task (Migrate net next journal) None bytes may = absurd may
+    by_task (Migrate net next journal) (Some told) None may = absurd may
     by_task (Live net journal commands) files bytes may = absurd may
     by_task (Room net journal commands) files bytes may = absurd may
 
 -- ---- the disk
 
-pub may_be_left : (task : Option Task) (status : Status) (images : List ℕ → Type 0) (c : List ℕ) → images c →
-    MayBeLeft task status images c
-may_be_left (Some (Init net journal)) status images c h = made_left status images c h
-may_be_left (Some (Dry net commands)) status images c h = h
-may_be_left (Some (Replay net journal)) status images c h = h
-may_be_left (Some (Serve net journal commands)) status images c h = h
-may_be_left (Some (Drive net seed count)) status images c h = h
-may_be_left (Some (Migrate net next journal)) status images c h = h
-may_be_left (Some (Live net journal commands)) status images c h = h
-may_be_left (Some (Room net journal commands)) status images c h = h
-may_be_left None status images c h = h
+pub may_be_left : (task : Option Task) (status : Status) (files : Option NamedFiles) (bytes : Option (List ℕ))
+    (images : List ℕ → Type 0) (c : List ℕ) → images c → MayBeLeft task status files bytes images c
+may_be_left (Some (Init net journal)) status files bytes images c h = made_left status images c h
+may_be_left (Some (Dry net commands)) status files bytes images c h = h
+may_be_left (Some (Replay net journal)) status files bytes images c h = h
+may_be_left (Some (Serve net journal commands)) status files bytes images c h = h
+may_be_left (Some (Drive net seed count)) status files bytes images c h = h
+may_be_left (Some (Migrate net next journal)) status files (Some bytes) images c h = inl h
+may_be_left (Some (Migrate net next journal)) status files None images c h = h
+may_be_left (Some (Live net journal commands)) status files bytes images c h = h
+may_be_left (Some (Room net journal commands)) status files bytes images c h = h
+may_be_left None status files bytes images c h = h
 
 -- where no call of the disk is made
 pub none_made : {D : Type 0} (clock : D → ℕ) (since : D → ℕ → List ℕ → Type 0) (images : D → List ℕ → Type 0) →
-    ((d : D) (c : List ℕ) → since d (clock d) c → images d c) → (d : D) (task : Option Task) (status : Status) →
-    LeavesOnly clock since d d (MayBeLeft task status (images d))
-none_made clock since images only_now d task status =
-    started clock since d (MayBeLeft task status (images d))
-    (λ c left. may_be_left task status (images d) c (only_now d c left))
+    ((d : D) (c : List ℕ) → since d (clock d) c → images d c) → (d : D) (task : Option Task) (status : Status)
+    (files : Option NamedFiles) (bytes : Option (List ℕ)) →
+    LeavesOnly clock since d d (MayBeLeft task status files bytes (images d))
+none_made clock since images only_now d task status files bytes =
+    started clock since d (MayBeLeft task status files bytes (images d))
+    (λ c left. may_be_left task status files bytes (images d) c (only_now d c left))
+
+-- the journal is bound, where the disk tells its bytes
+pub bind_left : {D : Type 0} (clock : D → ℕ) (since : D → ℕ → List ℕ → Type 0) (images : D → List ℕ → Type 0) (old new : D)
+    (o : Option (List ℕ)) (net next journal : List ℕ) (status : Status) (files : Option NamedFiles) → IsSome o →
+    IfSome o (λ bytes. LeavesOnly clock since old new (MayBeBound files net next bytes (images old))) →
+    LeavesOnly clock since old new (MayBeLeft (Some (Migrate net next journal)) status files o (images old))
+bind_left clock since images old new None net next journal status files told run = absurd (false≢true told)
+bind_left clock since images old new (Some bytes) net next journal status files told run = run

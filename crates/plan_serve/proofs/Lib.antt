@@ -10,6 +10,8 @@ pub mod FeedLaws
 pub mod EndLaws
 pub mod TopLaws
 pub mod JournalModeLaws
+pub mod BindingSteps
+pub mod MigrateModeLaws
 pub mod CallLaws
 pub mod HexLaws
 pub mod NetworkLaws

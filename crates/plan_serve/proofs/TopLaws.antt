@@ -188,7 +188,7 @@ keeps_none (Some a) None h = absurd h
 keeps_none (Some a) (Some b) h = h ∙ no_text_more a
 
 -- no line was given
-nothing_said : (before now : Option (List ℕ)) (old new : ℕ) → GivesLine [] before now old new →
+pub nothing_said : (before now : Option (List ℕ)) (old new : ℕ) → GivesLine [] before now old new →
     Keeps before now × (new ≡ old)
 nothing_said before now old new h = (
   keeps_none before now (subst (λ (v : List ℕ). Appends before now v) (empty_front h.front h.rest h.is) h.given),

@@ -1,8 +1,10 @@
 pub mod Answering
+pub mod Binding
 pub mod Ends
 pub mod Files
 pub mod JournalEnds
 pub mod Lines
+pub mod MigrateEnds
 pub mod Outside
 pub mod Session
 pub mod Status

@@ -5,8 +5,9 @@ use Rattle.eon_model.specs.Modes as modes
 use Rattle.eon_model.specs.Later.{later_line}
 use Rattle.journal_replay.specs.Replayed.{why_told as journal_why_told}
 use Rattle.net_file.specs.Told.{why_told}
+use Rattle.net_widening.specs.Told.{wide_told}
 use Rattle.plan_serve.specs.declared.status.Status.{Status}
-use Rattle.plan_serve.specs.declared.status.Status.TheVariants.{Done, Words, NetRefused, NetLong, ReadFault, DiskFault, JournalRefused, JournalOther, NotEmpty, Memory, WriteFault, InputLong, Later}
+use Rattle.plan_serve.specs.declared.status.Status.TheVariants.{Done, Words, NetRefused, NetLong, NextRefused, NextLong, NotWider, ReadFault, DiskFault, JournalRefused, JournalOther, NotEmpty, JournalFull, Memory, WriteFault, InputLong, Later}
 
 -- the status of the planner that it is; none for a mode that is not built yet
 abbrev pub status_told : Status → Option modes.Status
@@ -14,11 +15,15 @@ status_told Done = Some modes.Status.Done
 status_told Words = Some modes.Status.Words
 status_told (NetRefused line why) = Some (modes.Status.NetRefused line (why_told why))
 status_told NetLong = Some modes.Status.NetLong
+status_told (NextRefused line why) = Some (modes.Status.NextRefused line (why_told why))
+status_told NextLong = Some modes.Status.NextLong
+status_told (NotWider what) = Some (modes.Status.NotWider (wide_told what))
 status_told ReadFault = Some modes.Status.ReadFault
 status_told DiskFault = Some modes.Status.DiskFault
 status_told (JournalRefused at why) = Some (modes.Status.JournalRefused at (journal_why_told why))
 status_told (JournalOther kept own) = Some (modes.Status.JournalOther kept own)
 status_told (NotEmpty len) = Some (modes.Status.NotEmpty len)
+status_told (JournalFull needed left) = Some (modes.Status.JournalFull needed left)
 status_told Memory = Some modes.Status.Memory
 status_told WriteFault = Some modes.Status.WriteFault
 status_told InputLong = Some modes.Status.InputLong

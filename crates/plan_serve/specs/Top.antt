@@ -6,11 +6,12 @@ use Rattle.eon_model.specs.Services.{State}
 use Rattle.eon_model.specs.Legal.{Setup}
 use Rattle.eon_model.specs.Events.{Event}
 use Rattle.eon_model.specs.Modes.{Task, is_long_stream}
-use Rattle.eon_model.specs.Modes.Task.{Dry, Init, Replay}
-use Rattle.eon_model.specs.TopLines.{usage_line, init_line, replay_text}
-use Rattle.eon_model.specs.Journal.{Stands}
+use Rattle.eon_model.specs.Modes.Task.{Dry, Init, Replay, Migrate}
+use Rattle.eon_model.specs.TopLines.{usage_line, init_line, replay_text, migrate_line}
+use Rattle.eon_model.specs.Journal.{left_at, Stands}
 use Rattle.eon_model.specs.Replay.{replay}
 use Rattle.eon_model.specs.Run.{Runs}
+use Rattle.eon_model.specs.Wider.{Widens}
 use Rattle.eon_model.specs.Later.{later_line}
 use Rattle.eon_outside.specs.Faults.{Standing, counted}
 use Rattle.eon_outside.specs.Reading.{NamedFiles}
@@ -22,6 +23,7 @@ use Rattle.plan_serve.specs.Files.{IsAcceptedFile, IsDigestedFile}
 use Rattle.plan_serve.specs.Outside.{Outside, DiskSeen, NotRead}
 use Rattle.plan_serve.specs.Ends.{Says, DryEnds}
 use Rattle.plan_serve.specs.JournalEnds.{InitEnds, ReplayEnds, LeadsTo, MayBeMade}
+use Rattle.plan_serve.specs.MigrateEnds.{MigrateEnds, StopsEarly, MayBeBound}
 
 -- ---- how it ends
 
@@ -40,6 +42,8 @@ abbrev pub Ends : Option Task → Outside → Outside → DiskSeen → DiskSeen 
 Ends (Some (Dry net commands)) before now old new status = DryEnds net commands before now status
 Ends (Some (Init net journal)) before now old new status = InitEnds net journal before now old new status
 Ends (Some (Replay net journal)) before now old new status = ReplayEnds net journal before now old new status
+Ends (Some (Migrate net next journal)) before now old new status =
+    MigrateEnds net next journal before now old new status
 Ends None before now old new Words = SaysOnly usage_line before now
 Ends None before now old new Memory = DoesNothing before now
 Ends None before now old new _ = ⊥
@@ -53,6 +57,7 @@ AskedAt None status = (status ≡ Words) ⊎ (status ≡ Memory)
 AskedAt (Some (Dry net commands)) status = (status ≢ Words) × (status ≢ Later)
 AskedAt (Some (Init net journal)) status = (status ≢ Words) × (status ≢ Later)
 AskedAt (Some (Replay net journal)) status = (status ≢ Words) × (status ≢ Later)
+AskedAt (Some (Migrate net next journal)) status = (status ≢ Words) × (status ≢ Later)
 AskedAt (Some _) status = (status ≡ Later) ⊎ (status ≡ Memory)
 
 -- ---- the disk
@@ -68,18 +73,26 @@ IsEarly _ = ⊥
 abbrev pub NeedsNoDisk : Option Task → Status → Type 0
 NeedsNoDisk (Some (Init net journal)) status = IsEarly status
 NeedsNoDisk (Some (Replay net journal)) status = IsEarly status
+NeedsNoDisk (Some (Migrate net next journal)) status = StopsEarly status
 NeedsNoDisk task status = ⊤
 
+-- what a crash may leave is told, for a mode that binds a journal only where the disk tells its bytes
+abbrev pub IsToldFor : Option Task → Option (List ℕ) → Type 0
+IsToldFor (Some (Migrate net next journal)) bytes = IsSome bytes
+IsToldFor task bytes = ⊤
+
 -- What a crash may leave at any moment of the call, by what it might have left at the start: the same, but for a journal that
--- is made.
-abbrev pub MayBeLeft : Option Task → Status → (List ℕ → Type 0) → List ℕ → Type 0
-MayBeLeft (Some (Init net journal)) status images = MayBeMade status images
-MayBeLeft task status images = images
+-- is made, or bound to a wider network.
+abbrev pub MayBeLeft : Option Task → Status → Option NamedFiles → Option (List ℕ) → (List ℕ → Type 0) → List ℕ → Type 0
+MayBeLeft (Some (Init net journal)) status files bytes images = MayBeMade status images
+MayBeLeft (Some (Migrate net next journal)) status files (Some bytes) images = MayBeBound files net next bytes images
+MayBeLeft task status files bytes images = images
 
 -- no call of the disk failed, where the mode has a journal
 abbrev pub NoDiskFault : Option Task → ℕ → ℕ → Type 0
 NoDiskFault (Some (Init net journal)) before now = now ≢ counted before
 NoDiskFault (Some (Replay net journal)) before now = now ≢ counted before
+NoDiskFault (Some (Migrate net next journal)) before now = now ≢ counted before
 NoDiskFault task before now = ⊤
 
 -- ---- when nothing is in the way
@@ -108,11 +121,28 @@ pub record MayTell (told : NamedFiles) (net bytes : List ℕ) : Type 0 where
   pub stands : Stands bytes digest setup.journal events place
   pub replays : IsSome (replay setup events)
 
+-- The network is accepted, and one that widens it; the journal on the disk is bound to the first, stands for events that replay,
+-- and has room for the binding.
+pub record MayBind (told : NamedFiles) (net next bytes : List ℕ) : Type 0 where
+  pub setup : Setup
+  pub own : List ℕ
+  pub network : IsDigestedFile (Some told) net setup own
+  pub wider : Setup
+  pub digest : List ℕ
+  pub next_network : IsDigestedFile (Some told) next wider digest
+  pub widens : Widens setup wider
+  pub events : List Event
+  pub place : ℕ
+  pub stands : Stands bytes own setup.journal events place
+  pub replays : IsSome (replay setup events)
+  pub room : 40 ≤ left_at setup.journal place
+
 -- the words ask for a mode that is built, and its files and its disk allow it
 abbrev pub MayEnd : Option Task → Option NamedFiles → Option (List ℕ) → Type 0
 MayEnd (Some (Dry net commands)) (Some told) bytes = MayServe told net commands
 MayEnd (Some (Init net journal)) (Some told) (Some bytes) = MayMake told net bytes
 MayEnd (Some (Replay net journal)) (Some told) (Some bytes) = MayTell told net bytes
+MayEnd (Some (Migrate net next journal)) (Some told) (Some bytes) = MayBind told net next bytes
 MayEnd task files bytes = ⊥
 
 -- the sink is sure of room for so many bytes more
@@ -132,4 +162,5 @@ IsRoomy (Some (Replay net journal)) files disk given standing =
     (setup : Setup) (digest : List ℕ) (events : List Event) (state : State)
     → IsDigestedFile files net setup digest → LeadsTo setup digest disk events state
     → HasRoom given standing (length (replay_text setup events state))
+IsRoomy (Some (Migrate net next journal)) files disk given standing = HasRoom given standing (length migrate_line)
 IsRoomy task files disk given standing = ⊤

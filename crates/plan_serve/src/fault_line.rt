@@ -1,7 +1,8 @@
 //! The lines of networks and journals that are refused.
 ghost use Rattle.std.specs.Prelude.{◌≡◌, ℕ, ◌+◌, ◌≤◌, ◌++◌, List, length};
-ghost use Rattle.eon_model.specs.TopLines.{why_word, journal_word, hex, network_fault_line, journal_fault_line, journal_other_line, journal_notempty_line};
+ghost use Rattle.eon_model.specs.TopLines.{why_word, journal_word, hex, network_fault_line, journal_fault_line, journal_other_line, journal_notempty_line, journal_full_line, next_fault_line, wide_word, narrower_line};
 ghost use Rattle.net_file.specs.Told.{why_told};
+ghost use Rattle.net_widening.specs.Told.{wide_told};
 ghost use Rattle.journal_replay.specs.Replayed.{why_told as journal_why_told};
 
 use arrayvec::ArrayVec;
@@ -9,6 +10,7 @@ use eon_base::number::digits;
 use hex::encode_to_slice;
 use journal_replay::JournalWhy;
 use net_file::Why;
+use net_widening::Narrower;
 use std::marker::Model;
 
 /// The most bytes of such a line: two digests of 64 digits, and the words before.
@@ -63,6 +65,23 @@ fn journal_word_of(why: JournalWhy) -> &'static str
     }
 }
 
+/// The word of what a network is narrower in.
+fn narrower_word_of(what: Narrower) -> &'static str
+    ensures word { result.now ≡ wide_word (wide_told what) }
+    ensures short { length result.now ≤ 8 }
+{
+    match what {
+        Narrower::Guard => "guard",
+        Narrower::Services => "services",
+        Narrower::Journal => "journal",
+        Narrower::Format => "format",
+        Narrower::Node => "node",
+        Narrower::Fibre => "fibre",
+        Narrower::Group => "group",
+        Narrower::Band => "band",
+    }
+}
+
 /// Two lower-case digits for each byte of a digest.
 fn digits_of(digest: &[u8; 32]) -> [u8; DIGITS]
     ensures { result ≡ hex digest.now }
@@ -86,6 +105,34 @@ impl FaultLine {
         line.append(digits(u64::from(number)).bytes());
         line.append(b" ");
         line.append(word_of(why).as_bytes());
+        line.append(b"\n");
+        line
+    }
+
+    /// The same of the network that a journal is to be bound to.
+    pub(crate) fn of_next(number: u32, why: Why) -> FaultLine
+        ensures { result ≡ next_fault_line number (why_told why) }
+    {
+        let mut line = FaultLine {
+            bytes: ArrayVec::new(),
+        };
+        line.append(b"next ");
+        line.append(digits(u64::from(number)).bytes());
+        line.append(b" ");
+        line.append(word_of(why).as_bytes());
+        line.append(b"\n");
+        line
+    }
+
+    /// What that network is narrower in.
+    pub(crate) fn of_narrower(what: Narrower) -> FaultLine
+        ensures { result ≡ narrower_line (wide_told what) }
+    {
+        let mut line = FaultLine {
+            bytes: ArrayVec::new(),
+        };
+        line.append(b"net narrower ");
+        line.append(narrower_word_of(what).as_bytes());
         line.append(b"\n");
         line
     }
@@ -129,6 +176,21 @@ impl FaultLine {
         };
         line.append(b"journal notempty ");
         line.append(digits(len).bytes());
+        line.append(b"\n");
+        line
+    }
+
+    /// How many bytes a journal needs, and how many are left.
+    pub(crate) fn of_full(need: u32, left: u32) -> FaultLine
+        ensures { result ≡ journal_full_line need left }
+    {
+        let mut line = FaultLine {
+            bytes: ArrayVec::new(),
+        };
+        line.append(b"journal full ");
+        line.append(digits(u64::from(need)).bytes());
+        line.append(b" ");
+        line.append(digits(u64::from(left)).bytes());
         line.append(b"\n");
         line
     }

@@ -28,8 +28,8 @@ use std::alloc::{AllocError, Global};
 /// What is written of a journal that was made.
 const MADE: &str = "ok init\n";
 
-// Gives the one text of a mode, with which the call ends.
-fn give<K: Sink>(out: &mut K, text: &[u8]) -> Status
+/// Gives the one text of a mode, with which the call ends.
+pub(crate) fn give<K: Sink>(out: &mut K, text: &[u8]) -> Status
     ensures told { Tells text.now (output (K.given out.old) (K.standing out.old)) (output (K.given out.new) (K.standing out.new)) result }
     ensures room { (K.standing out.new).room ≡ (K.standing out.old).room }
 {

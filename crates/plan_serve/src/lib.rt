@@ -6,6 +6,7 @@
 mod answering;
 mod fault_line;
 mod journal;
+mod migrate;
 mod network;
 mod session;
 pub mod status;

@@ -10,6 +10,7 @@ use crate::fault_line::FaultLine;
 use eon_outside::{Failed, Sink, write_all};
 use journal_replay::JournalWhy;
 use net_file::Why;
+use net_widening::Narrower;
 
 /// How the program is called.
 const USAGE: &str =
@@ -20,6 +21,9 @@ const LATER: &str = "later\n";
 
 /// What is written of a network that is too long.
 const NET_LONG: &str = "net long\n";
+
+/// What is written where the network that a journal is to be bound to is too long.
+const NEXT_LONG: &str = "next long\n";
 
 /// How a call of the planner ended.
 #[derive(Clone, Copy, Debug, PartialEq, Eq)]
@@ -32,6 +36,13 @@ pub enum Status {
     NetRefused { line: u32, why: Why },
     /// The network's file has more than 1,048,576 bytes.
     NetLong,
+    /// The network that a journal is to be bound to is no network text: this is its first line with a fault, and its
+    /// first cause.
+    NextRefused { line: u32, why: Why },
+    /// The file of the network that a journal is to be bound to has more than 1,048,576 bytes.
+    NextLong,
+    /// It does not widen the network that the journal is bound to: this is the first thing that it is narrower in.
+    NotWider { what: Narrower },
     /// A file could not be opened or read.
     ReadFault,
     /// A call of the disk failed.
@@ -42,6 +53,8 @@ pub enum Status {
     JournalOther { kept: [u8; 32], own: [u8; 32] },
     /// A journal was to be made, and the disk has so many bytes already.
     NotEmpty { len: u64 },
+    /// The journal is full: so many bytes are needed, and fewer are left.
+    JournalFull { need: u32, left: u32 },
     /// There was no memory, before anything was written.
     Memory,
     /// The output could not be written.
@@ -63,10 +76,12 @@ impl Status {
             Status::Done => 0,
             Status::Words => 1,
             Status::NetRefused { .. } | Status::NetLong => 2,
+            Status::NextRefused { .. } | Status::NextLong | Status::NotWider { .. } => 2,
             Status::ReadFault => 3,
             Status::DiskFault => 4,
             Status::JournalRefused { .. } | Status::JournalOther { .. } | Status::NotEmpty { .. } =>
                 5,
+            Status::JournalFull { .. } => 5,
             Status::Memory => 6,
             Status::WriteFault => 7,
             Status::InputLong => 8,
@@ -86,6 +101,11 @@ impl Status {
                 write_all(out, FaultLine::of_network(line, why).bytes())
             }
             Status::NetLong => write_all(out, NET_LONG.as_bytes()),
+            Status::NextRefused { line, why } => {
+                write_all(out, FaultLine::of_next(line, why).bytes())
+            }
+            Status::NextLong => write_all(out, NEXT_LONG.as_bytes()),
+            Status::NotWider { what } => write_all(out, FaultLine::of_narrower(what).bytes()),
             Status::JournalRefused { at, why } => {
                 write_all(out, FaultLine::of_journal(at, why).bytes())
             }
@@ -93,6 +113,9 @@ impl Status {
                 write_all(out, FaultLine::of_other(&kept, &own).bytes())
             }
             Status::NotEmpty { len } => write_all(out, FaultLine::of_not_empty(len).bytes()),
+            Status::JournalFull { need, left } => {
+                write_all(out, FaultLine::of_full(need, left).bytes())
+            }
             Status::Later => write_all(out, LATER.as_bytes()),
             _ => write_all(out, &[]),
         }

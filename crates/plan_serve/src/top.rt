@@ -11,9 +11,10 @@ ghost use Rattle.plan_serve.specs.Files.{IsLeft};
 ghost use Rattle.plan_serve.specs.Lines.{most_read};
 ghost use Rattle.plan_serve.specs.Outside.{outside, disk_seen};
 ghost use Rattle.plan_serve.specs.Ends.{DryEnds, StreamEnds, AnswersStream, CountsReads, StandsAt};
-ghost use Rattle.plan_serve.specs.Top.{Ends, AskedAt, NeedsNoDisk, MayBeLeft, NoDiskFault, MayEnd, IsRoomy};
+ghost use Rattle.plan_serve.specs.Top.{Ends, AskedAt, NeedsNoDisk, MayBeLeft, NoDiskFault, IsToldFor, MayEnd, IsRoomy};
 
 use crate::journal::{make_journal, tell_journal};
+use crate::migrate::migrate;
 use crate::network::read_network;
 use crate::session::Session;
 use crate::status::{Status, refuse};
@@ -33,7 +34,7 @@ const HELD_BACK: usize = 65_536;
 
 /// Does what the words ask for. `dry NET COMMANDS` answers each line of a command stream over a network, up to `quit`.
 /// `init NET JOURNAL` makes a journal for the network, and `replay NET JOURNAL` tells how many events stand in it, and the
-/// list that they lead to. The files are opened by the shelf, the journal is attached to the disk, and what is said is
+/// list that they lead to. `migrate NET NEXT JOURNAL` binds the journal of a network to a wider one. The files are opened by the shelf, the journal is attached to the disk, and what is said is
 /// given to `out`.
 pub fn plan_main<H: Shelf, K: Sink, D: Deck>(
     alloc: Global,
@@ -54,7 +55,7 @@ pub fn plan_main<H: Shelf, K: Sink, D: Deck>(
     // Where no call of the disk is made, it is as before.
     ensures untouched { NeedsNoDisk (task_of (map string_bytes words.now)) result → disk.new ≡ disk.old }
     // What a crash may leave at any moment of the call.
-    ensures moments { LeavesOnly D.clock D.images_since disk.old disk.new (MayBeLeft (task_of (map string_bytes words.now)) result (D.images disk.old)) }
+    ensures moments { IsToldFor (task_of (map string_bytes words.now)) (D.now disk.old) → LeavesOnly D.clock D.images_since disk.old disk.new (MayBeLeft (task_of (map string_bytes words.now)) result (H.files shelf.old) (D.now disk.old) (D.images disk.old)) }
     // Where nothing is in the way, all is done, unless there is no memory.
     ensures completeness { MayEnd (task_of (map string_bytes words.now)) (H.files shelf.old) (D.now disk.old) → H.faults shelf.new ≢ counted (H.faults shelf.old) → (K.standing out.new).faults ≢ counted (K.standing out.old).faults → NoDiskFault (task_of (map string_bytes words.now)) (D.faults disk.old) (D.faults disk.new) → (result ≡ Status.Done) ⊎ (result ≡ Status.Memory) }
     // So it is for a shelf and a sink of which no call fails, where none of the disk fails.
@@ -64,6 +65,9 @@ pub fn plan_main<H: Shelf, K: Sink, D: Deck>(
         Ok(Words::Dry { net, commands }) => dry(alloc, net, commands, shelf, out),
         Ok(Words::Init { net, journal }) => make_journal(alloc, net, journal, shelf, out, disk),
         Ok(Words::Replay { net, journal }) => tell_journal(alloc, net, journal, shelf, out, disk),
+        Ok(Words::Migrate { net, next, journal }) => {
+            migrate(alloc, net, next, journal, shelf, out, disk)
+        }
         Ok(_) => refuse(out, Status::Later),
         Err(WordsFault::Refused) => refuse(out, Status::Words),
         Err(WordsFault::Memory) => Status::Memory,
