@@ -1,25 +1,22 @@
 -- The first line of a list.
-use Rattle.std.proofs.Common.{◌≡◌, refl, sym, ◌∙◌, ap, ℕ, ◌≤◌, ◌<◌, ◌^◌, Bool, true, false, cond, ◌&&◌, List, [], ◌∷◌, drop, Option, Some, None, arith}
+use Rattle.std.proofs.Common.{◌≡◌, refl, sym, ◌∙◌, ap, ℕ, ◌<◌, ◌^◌, Bool, true, false, cond, ◌&&◌, List, [], ◌∷◌, drop, Option, Some, None, arith}
 use Rattle.std.specs.Prelude.{codes, bytes_eq, nat_le}
 use Rattle.std.specs.Bool.{then_some}
-use Rattle.std.specs.Option.{option_map, option_and_then}
 use Rattle.std.specs.Fmt.{decimal}
 use Rattle.std.proofs.lemmas.Bool.{and_parts, and_from, leb-true, le-leb}
 use Rattle.std.proofs.lemmas.Slice.Eq.{bytes_eq-Decides}
-use Rattle.eon_model.specs.Numerals.{is_within, number_value}
+use Rattle.eon_model.specs.Numerals.{number_value}
 use Rattle.eon_model.specs.NetworkFault.{Fields, field_at}
 use Rattle.eon_model.specs.Spelling.{spaced, fields_of}
 use Rattle.eon_model.specs.PlanReadings.{count_told}
-use Rattle.eon_model.proofs.OrderLaws.{AllOf}
-use Rattle.eon_model.proofs.SplitLaws.{lacks}
 use Rattle.eon_model.proofs.SpellingLaws.{decimal-lacks, number_value-decimal}
 use Rattle.eon_model.proofs.WholeLines.{then_told}
 use Rattle.eon_model.proofs.MovesAgain.{word-lacks, fields-again, space}
 use Rattle.net_file.specs.Readings.{first_read, is_nil}
 use Rattle.net_file.proofs.SplitText.{spaced-fields}
-use Rattle.plan_texts.specs.Fields.{◌>>=◌, guarded, number_within, is_first}
+use Rattle.plan_texts.specs.Fields.{◌>>=◌, number_within, is_first}
 use Rattle.plan_texts.specs.Plans.{count_of, count_at}
-use Rattle.plan_texts.proofs.FieldSteps.{Taken, taken, passed, same_reading, number-spelled, number-read, word-front, nothing-left}
+use Rattle.plan_texts.proofs.FieldSteps.{taken, passed, same_reading, number-spelled, number-read, word-front, nothing-left}
 
 abbrev count_words : ℕ → List (List ℕ)
 count_words count = codes "list" ∷ decimal count ∷ []

@@ -1,6 +1,6 @@
 -- Steps of a reader of fields: what a step that went on had read, and that the spelling of a value is read as it.
-use Rattle.std.proofs.Common.{◌≡◌, refl, sym, ◌∙◌, ap, ℕ, ◌<◌, ◌^◌, ℤ, pos, negsuc, Bool, true, false, cond, ◌&&◌, List, [], ◌∷◌, drop, Option, Some, None, arith}
-use Rattle.std.specs.Prelude.{nat_le, nat_abs, bytes_eq, slice_get, codes}
+use Rattle.std.proofs.Common.{◌≡◌, refl, sym, ◌∙◌, ap, ℕ, ◌<◌, ◌^◌, ℤ, pos, negsuc, Bool, true, false, cond, List, [], ◌∷◌, drop, Option, Some, None, arith}
+use Rattle.std.specs.Prelude.{nat_le, nat_abs, bytes_eq}
 use Rattle.std.specs.Bool.{then_some}
 use Rattle.std.specs.Option.{option_and_then, option_map}
 use Rattle.std.specs.Fmt.{decimal, signed_decimal}

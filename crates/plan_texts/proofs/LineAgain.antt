@@ -1,5 +1,5 @@
 -- The line of a service in range is read as it.
-use Rattle.std.proofs.Common.{◌≡◌, refl, sym, ◌∙◌, ap, ℕ, ◌<◌, ◌^◌, ℤ, true, cond, ◌&&◌, List, [], ◌∷◌, ◌++◌, length, Option, Some, None, arith, nat_eq}
+use Rattle.std.proofs.Common.{◌≡◌, refl, ◌∙◌, ap, ℕ, ◌<◌, ◌^◌, ℤ, true, cond, ◌&&◌, List, [], ◌∷◌, ◌++◌, length, Option, Some, None, arith, nat_eq}
 use Rattle.std.specs.Prelude.{codes, bytes_eq, nat_le}
 use Rattle.std.specs.Bool.{then_some}
 use Rattle.std.specs.Option.{option_and_then, option_to_list}
@@ -10,10 +10,10 @@ use Rattle.std.proofs.lemmas.Slice.Eq.{bytes_eq-Decides}
 use Rattle.eon_model.specs.declared.Class.{Class}
 use Rattle.eon_model.specs.declared.Class.TheVariants.{Bare, Shared, Dual}
 use Rattle.eon_model.specs.Names.{Name, is_name}
-use Rattle.eon_model.specs.Numerals.{is_within, number_value, signed_value}
+use Rattle.eon_model.specs.Numerals.{is_within}
 use Rattle.eon_model.specs.CommandText.{is_rate, is_centre}
 use Rattle.eon_model.specs.Listings.{class_word}
-use Rattle.eon_model.specs.Spelling.{spaced, fibre_list, fields_of, field_before}
+use Rattle.eon_model.specs.Spelling.{fibre_list}
 use Rattle.eon_model.specs.ReplyText.{target_words}
 use Rattle.eon_model.specs.PlanTexts.{PathLine, LegLine, ServiceLine, path_line_words, back_line_words, leg_line_words, next_line_words, service_text, is_path_line, is_leg_line, is_service_line, names_listed, path_read, class_read, back_read, target_read, next_read, service_read, service_told}
 use Rattle.eon_model.proofs.OrderLaws.{AllOf}

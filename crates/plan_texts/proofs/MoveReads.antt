@@ -1,7 +1,7 @@
 -- The fields of a move's line are read as the move.
-use Rattle.std.proofs.Common.{◌≡◌, refl, sym, ◌∙◌, ap, ℕ, ℤ, Bool, true, false, cond, ◌&&◌, not, List, [], ◌∷◌, ◌++◌, append_assoc, drop, Option, Some, None, arith}
-use Rattle.std.specs.Prelude.{codes, bytes_eq, nat_le, ◌==◌, is_some}
-use Rattle.std.specs.Option.{option_map, option_and_then, option_to_list}
+use Rattle.std.proofs.Common.{◌≡◌, refl, sym, ◌∙◌, ap, ℕ, ℤ, Bool, true, false, cond, ◌&&◌, List, [], ◌∷◌, ◌++◌, drop, Option, Some, None, arith}
+use Rattle.std.specs.Prelude.{codes, bytes_eq, nat_le}
+use Rattle.std.specs.Option.{option_map, option_to_list}
 use Rattle.std.specs.List.{list_all}
 use Rattle.std.specs.Fmt.{decimal, signed_decimal}
 use Rattle.std.proofs.lemmas.Bool.{and_parts, and_from, leb-true}
@@ -16,7 +16,7 @@ use Rattle.eon_model.specs.ReplyText.{rest_words, after_words, move_line}
 use Rattle.eon_model.specs.Spelling.{spaced, fields_of}
 use Rattle.eon_model.specs.PlanTexts as texts
 use Rattle.eon_model.specs.PlanTexts.{rest_names, is_move_line, move_read}
-use Rattle.eon_model.proofs.WholeLines.{ended, told_by}
+use Rattle.eon_model.proofs.WholeLines.{told_by}
 use Rattle.eon_model.proofs.MovesAgain.{move_words, move-again, word-lacks, fields-again, space}
 use Rattle.eon_model.proofs.OrderLaws.{AllOf}
 use Rattle.eon_model.proofs.ListLaws.{AllOf-append}
@@ -27,11 +27,11 @@ use Rattle.net_file.specs.Readings.{first_read, is_nil}
 use Rattle.net_file.proofs.SplitText.{spaced-fields}
 use Rattle.plan_texts.specs.Fields.{◌>>=◌, guarded, number_within, centre_of, is_first}
 use Rattle.plan_texts.specs.Told.{rest_told, move_told}
-use Rattle.plan_texts.specs.Moves.{rest_by, rest_at, behind_rest, last_name, after_by, after_at, waits_rightly, move_of, by_after, by_rest, by_to, by_from, by_name, move_at}
+use Rattle.plan_texts.specs.Moves.{rest_at, behind_rest, last_name, after_by, after_at, waits_rightly, move_of, by_after, by_rest, by_to, by_from, by_name, move_at}
 use Rattle.plan_texts.specs.declared.moves.Rest.{Rest}
 use Rattle.plan_texts.specs.declared.moves.Rest.TheVariants as rest
 use Rattle.plan_texts.specs.declared.moves.Move.{Move}
-use Rattle.plan_texts.proofs.FieldSteps.{Taken, taken, went_on, passed, mapped, same_reading, number-spelled, number-read, centre-spelled, centre-read, name-spelled, name-read, word-front, word-read, nothing-left}
+use Rattle.plan_texts.proofs.FieldSteps.{taken, went_on, passed, mapped, same_reading, number-spelled, number-read, centre-spelled, centre-read, name-spelled, name-read, word-front, nothing-left}
 
 -- ---- what was read
 

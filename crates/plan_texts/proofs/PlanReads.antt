@@ -1,8 +1,8 @@
 -- The first line of a plan, and its moves line by line.
-use Rattle.std.proofs.Common.{◌≡◌, refl, sym, ◌∙◌, ap, ℕ, zero, suc, ◌+◌, ◌-◌, ◌≤◌, ◌<◌, ◌^◌, Bool, true, false, cond, ◌&&◌, List, [], ◌∷◌, ◌++◌, drop, length, Option, Some, None, arith}
+use Rattle.std.proofs.Common.{◌≡◌, refl, sym, ◌∙◌, ap, ℕ, zero, suc, ◌+◌, ◌-◌, ◌≤◌, ◌<◌, ◌^◌, Bool, true, false, cond, ◌&&◌, List, [], ◌∷◌, ◌++◌, drop, Option, Some, None, arith}
 use Rattle.std.specs.Prelude.{codes, bytes_eq, ◌==◌, nat_le}
 use Rattle.std.specs.Bool.{then_some}
-use Rattle.std.specs.Option.{option_map, option_and_then}
+use Rattle.std.specs.Option.{option_map}
 use Rattle.std.specs.Fmt.{decimal}
 use Rattle.std.proofs.lemmas.Bool.{and_parts, and_from, leb-true, le-leb, eqb-true}
 use Rattle.std.proofs.lemmas.Slice.Eq.{bytes_eq-Decides}
@@ -22,7 +22,7 @@ use Rattle.net_file.proofs.SplitText.{spaced-fields}
 use Rattle.plan_texts.specs.Fields.{◌>>=◌, guarded, kept, number_within, is_first}
 use Rattle.plan_texts.specs.Plans.{has_few_batches, head_of, by_moves, head_at, model_head}
 use Rattle.plan_texts.specs.declared.plan.Head.{Head}
-use Rattle.plan_texts.proofs.FieldSteps.{Taken, taken, passed, mapped, same_reading, number-spelled, number-read, word-front, nothing-left}
+use Rattle.plan_texts.proofs.FieldSteps.{taken, passed, mapped, same_reading, number-spelled, number-read, word-front, nothing-left}
 
 -- ---- the first line
 

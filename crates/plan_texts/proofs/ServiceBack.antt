@@ -1,7 +1,7 @@
 -- The line of a service in range is read as the service, and no other line is.
-use Rattle.std.proofs.Common.{◌≡◌, refl, sym, ◌∙◌, ap, ℕ, ℤ, Bool, true, false, cond, ◌&&◌, List, [], ◌∷◌, ◌++◌, append_assoc, append-nil, drop, length, Option, Some, None, arith}
+use Rattle.std.proofs.Common.{◌≡◌, refl, sym, ◌∙◌, ap, ℕ, ℤ, true, false, cond, ◌&&◌, List, [], ◌∷◌, ◌++◌, append_assoc, append-nil, drop, length, Option, Some, None, arith}
 use Rattle.std.specs.Prelude.{codes, bytes_eq, nat_le}
-use Rattle.std.specs.Option.{option_map, option_and_then, option_to_list}
+use Rattle.std.specs.Option.{option_map, option_to_list}
 use Rattle.std.specs.List.{list_all}
 use Rattle.std.specs.Fmt.{decimal, signed_decimal}
 use Rattle.std.proofs.lemmas.Bool.{and_parts, leb-true}
@@ -18,14 +18,13 @@ use Rattle.eon_model.specs.PlanTexts as texts
 use Rattle.eon_model.specs.PlanTexts.{back_line_words, leg_line_words, next_line_words, service_text, is_path_line, is_leg_line, is_service_line, service_read}
 use Rattle.eon_model.proofs.WholeLines.{told_by}
 use Rattle.eon_model.proofs.MovesAgain.{fields-again}
-use Rattle.eon_base.specs.Names.{name_of}
 use Rattle.command_text.specs.Parts.{fibre_names_of}
 use Rattle.command_text.proofs.FibreParts.{pieces-list}
 use Rattle.net_file.specs.Readings.{first_read, is_nil}
 use Rattle.net_file.proofs.SplitText.{spaced-fields}
-use Rattle.plan_texts.specs.Fields.{◌>>=◌, guarded, number_within, centre_of, is_first}
+use Rattle.plan_texts.specs.Fields.{◌>>=◌, centre_of, is_first}
 use Rattle.plan_texts.specs.ServiceTold.{path_told, leg_told, service_told}
-use Rattle.plan_texts.specs.Services.{class_of, demand_of, by_class, by_rate, by_dst, by_src, demand_at, behind_demand, path_of, by_width, by_centre, path_at, behind_path, back_at, behind_back, leg_of, by_back, leg_at, behind_leg, target_at, behind_target, last_leg, next_at, service_of, by_next, by_target, by_leg, service_at}
+use Rattle.plan_texts.specs.Services.{class_of, demand_of, by_class, by_rate, by_dst, by_src, demand_at, path_of, by_width, by_centre, path_at, back_at, behind_back, leg_of, by_back, leg_at, behind_leg, target_at, behind_target, last_leg, next_at, service_of, by_next, by_target, by_leg, service_at}
 use Rattle.plan_texts.specs.declared.service.PathLine.{PathLine}
 use Rattle.plan_texts.specs.declared.service.LegLine.{LegLine}
 use Rattle.plan_texts.specs.declared.service.Demand.{Demand}

@@ -1,27 +1,25 @@
 -- The fields of a service's line are read as the service: what was read.
-use Rattle.std.proofs.Common.{◌≡◌, refl, sym, ◌∙◌, ap, ℕ, ℤ, Bool, true, false, cond, ◌&&◌, List, [], ◌∷◌, ◌++◌, append_assoc, append-nil, drop, length, nat_eq, Option, Some, None, arith}
+use Rattle.std.proofs.Common.{◌≡◌, refl, sym, ◌∙◌, ap, ℕ, ℤ, Bool, true, false, cond, List, [], ◌∷◌, ◌++◌, append_assoc, append-nil, drop, length, nat_eq, Option, Some, None, arith}
 use Rattle.std.specs.Prelude.{codes, bytes_eq, nat_le}
-use Rattle.std.specs.Option.{option_map, option_and_then, option_to_list}
+use Rattle.std.specs.Option.{option_map, option_to_list}
 use Rattle.std.specs.List.{list_all}
 use Rattle.std.specs.Fmt.{decimal, signed_decimal}
-use Rattle.std.proofs.lemmas.Bool.{and_parts, and_from, le-leb}
+use Rattle.std.proofs.lemmas.Bool.{and_from, le-leb}
 use Rattle.std.proofs.lemmas.List.Splits.{join_with_byte-slice_split}
 use Rattle.std.proofs.lemmas.Slice.Eq.{bytes_eq-Decides}
 use Rattle.eon_model.specs.declared.Class.{Class}
 use Rattle.eon_model.specs.declared.Class.TheVariants.{Bare, Shared, Dual}
 use Rattle.eon_model.specs.Names.{Name, is_name}
-use Rattle.eon_model.specs.Numerals.{is_within}
 use Rattle.eon_model.specs.CommandText.{is_centre, is_rate}
 use Rattle.eon_model.specs.Listings.{class_word}
 use Rattle.eon_model.specs.NetworkFault.{Fields}
 use Rattle.eon_model.specs.Spelling.{fibre_list}
 use Rattle.eon_model.specs.ReplyText.{target_words}
-use Rattle.eon_model.specs.PlanTexts as texts
-use Rattle.eon_model.specs.PlanTexts.{path_line_words, back_line_words, leg_line_words, next_line_words, is_path_line, is_leg_line, is_service_line}
+use Rattle.eon_model.specs.PlanTexts.{back_line_words, leg_line_words, next_line_words, is_path_line, is_leg_line, is_service_line}
 use Rattle.eon_model.proofs.SplitLaws.{split_by, onto_first}
 use Rattle.eon_base.specs.Names.{name_of}
 use Rattle.command_text.specs.Parts.{comma_pieces, fibre_names_of}
-use Rattle.command_text.proofs.FibreParts.{pieces-list, pieces-split}
+use Rattle.command_text.proofs.FibreParts.{pieces-split}
 use Rattle.net_file.specs.Readings.{first_read, is_nil}
 use Rattle.plan_texts.specs.Fields.{◌>>=◌, guarded, number_within, centre_of, is_first}
 use Rattle.plan_texts.specs.ServiceTold.{path_told, leg_told, service_told}
@@ -30,7 +28,7 @@ use Rattle.plan_texts.specs.declared.service.PathLine.{PathLine}
 use Rattle.plan_texts.specs.declared.service.LegLine.{LegLine}
 use Rattle.plan_texts.specs.declared.service.Demand.{Demand}
 use Rattle.plan_texts.specs.declared.service.ServiceLine.{ServiceLine}
-use Rattle.plan_texts.proofs.FieldSteps.{Taken, taken, went_on, passed, mapped, number-spelled, centre-spelled, name-spelled, word-front, nothing-left}
+use Rattle.plan_texts.proofs.FieldSteps.{taken, went_on, passed, mapped, number-spelled, centre-spelled, name-spelled, word-front, nothing-left}
 use Rattle.plan_texts.proofs.LineAgain.{service_words}
 
 made : {A : Type 0} (x y : A) → Some x ≡ Some y → x ≡ y

@@ -1,7 +1,6 @@
 -- What the fields of a move's line are read as.
-use Rattle.std.specs.Prelude.{ℕ, ◌==◌, ℤ, Bool, not, List, [], ◌∷◌, codes, bytes_eq, drop, Option, Some, None, is_some, if◌then◌else◌}
-use Rattle.std.specs.Option.{option_map, option_and_then}
-use Rattle.std.specs.Bool.{then_some}
+use Rattle.std.specs.Prelude.{ℕ, ◌==◌, ℤ, Bool, not, List, codes, bytes_eq, drop, Option, Some, None, is_some, if◌then◌else◌}
+use Rattle.std.specs.Option.{option_map}
 use Rattle.eon_model.specs.Names.{Name}
 use Rattle.eon_model.specs.NetworkFault.{Fields}
 use Rattle.eon_base.specs.Names.{name_of}

@@ -1,6 +1,5 @@
 -- What the first line of a plan is read as.
 use Rattle.std.specs.Prelude.{ℕ, ◌==◌, nat_le, Bool, codes, drop, Option, Some, None, if◌then◌else◌}
-use Rattle.std.specs.Option.{option_and_then}
 use Rattle.eon_model.specs.NetworkFault.{Fields}
 use Rattle.eon_model.specs.PlanReadings.{PlanHead}
 use Rattle.net_file.specs.Readings.{first_read, is_nil}

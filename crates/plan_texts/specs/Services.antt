@@ -1,6 +1,6 @@
 -- What the fields of a service's line are read as.
-use Rattle.std.specs.Prelude.{ℕ, ℤ, Bool, List, codes, bytes_eq, drop, Option, Some, None, if◌then◌else◌}
-use Rattle.std.specs.Option.{option_map, option_and_then}
+use Rattle.std.specs.Prelude.{ℕ, ℤ, List, codes, bytes_eq, drop, Option, Some, None, if◌then◌else◌}
+use Rattle.std.specs.Option.{option_map}
 use Rattle.eon_model.specs.declared.Class.{Class}
 use Rattle.eon_model.specs.declared.Class.TheVariants.{Bare, Shared, Dual}
 use Rattle.eon_model.specs.Names.{Name}

@@ -1,7 +1,7 @@
 -- Moves and plans of the code as those of the planner's definitions.
 use Rattle.std.specs.Prelude.{◌≡◌, ⊤, ℕ, List, map}
 use Rattle.eon_model.specs.Plan as model
-use Rattle.eon_model.specs.PlanReadings.{PlanOf, PlanFault, plan_reading}
+use Rattle.eon_model.specs.PlanReadings.{PlanFault, plan_reading}
 use Rattle.plan_texts.specs.declared.moves.Rest.{Rest}
 use Rattle.plan_texts.specs.declared.moves.Rest.TheVariants as rest
 use Rattle.plan_texts.specs.declared.moves.Move.{Move}

@@ -3,7 +3,6 @@ use Rattle.std.specs.Option.{option_map}
 use Rattle.std.proofs.lemmas.List.{map-append}
 use Rattle.eon_model.specs.Plan as model
 use Rattle.eon_model.specs.PlanReadings.{moves_from}
-use Rattle.plan_texts.specs.declared.moves.Move.{Move}
 use Rattle.plan_texts.specs.Told.{move_told, moves_told}
 use Rattle.plan_texts.proofs.PlanReads.{goes-on, stops-at}
 use Rattle.plan_texts.proofs.plan.read_plan.Goals as goal

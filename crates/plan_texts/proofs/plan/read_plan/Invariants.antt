@@ -1,5 +1,5 @@
 -- What is left is read after the moves so far.
-use Rattle.std.proofs.Common.{◌≡◌, ◌+◌, ◌-◌, ◌≤◌}
+use Rattle.std.proofs.Common.{◌≡◌, ◌+◌, ◌-◌}
 use Rattle.eon_model.specs.PlanReadings.{moves_from, plan_reading}
 use Rattle.plan_texts.specs.Told.{moves_told}
 use Rattle.plan_texts.proofs.plan.read_plan.Given as goal
