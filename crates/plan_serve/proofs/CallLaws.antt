@@ -15,7 +15,6 @@ use Rattle.eon_model.specs.TopLines.{init_line, replay_text, migrate_line}
 use Rattle.eon_model.specs.Wider.{Widens, first_narrower}
 use Rattle.eon_model.proofs.JournalLaws.{Stands-place}
 use Rattle.eon_model.proofs.WiderLaws.{narrower_told}
-use Rattle.net_widening.specs.Told.{wide_told}
 use Rattle.eon_model.proofs.TextNumbers.{some_is}
 use Rattle.eon_model.proofs.NetworkUniqueLaws.{network_text-unique}
 use Rattle.eon_model.proofs.RefusalLaws.{standing-not_refused, standing-not_other}

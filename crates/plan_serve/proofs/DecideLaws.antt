@@ -1,12 +1,12 @@
 -- What is decided on a line.
-use Rattle.std.proofs.Common.{◌≡◌, ◌≢◌, refl, sym, ◌∙◌, ap, subst, ℕ, ◌<◌, ◌≤◌, true, false, List, Option, Some, None, Ok, Err, length, arith}
+use Rattle.std.proofs.Common.{◌≡◌, ◌≢◌, refl, sym, ◌∙◌, ap, subst, ℕ, ◌<◌, ◌≤◌, true, false, List, Option, Some, None, Ok, Err, length}
 use Rattle.std.specs.Prelude.{IsTrue}
 use Rattle.std.specs.Io.KnownBytes.{Appends}
 use Rattle.std.proofs.lemmas.Bool.{true_from_ne_false}
 use Rattle.eon_model.specs.Services.{State}
 use Rattle.eon_model.specs.Legal.{Setup}
 use Rattle.eon_model.specs.Commands.{Command}
-use Rattle.eon_model.specs.CommandText.{IsLineOf, IsLine, IsFaultPlace}
+use Rattle.eon_model.specs.CommandText.{IsLine, IsFaultPlace}
 use Rattle.eon_model.specs.Replies as model
 use Rattle.eon_model.specs.ReplyText.{reply_text}
 use Rattle.eon_model.specs.Events as changes

@@ -1,5 +1,5 @@
 -- How the binding of a journal to a wider network ends, and what a crash may leave meanwhile.
-use Rattle.std.proofs.Common.{◌≡◌, refl, sym, ◌∙◌, ap, subst, inl, inr, ◌⊎◌, ℕ, ◌≤◌, true, false, List, [], ◌∷◌, ◌++◌, length, Option, Some, None, Ok, Err}
+use Rattle.std.proofs.Common.{◌≡◌, refl, sym, ◌∙◌, subst, inl, inr, ◌⊎◌, ℕ, ◌≤◌, true, false, List, [], ◌∷◌, ◌++◌, length, Option, Some, None, Ok, Err}
 use Rattle.std.specs.Prelude.{IfSome, IsSome}
 use Rattle.std.proofs.lemmas.Bool.{false≢true}
 use Rattle.eon_model.specs.Legal.{Setup}
@@ -7,25 +7,23 @@ use Rattle.eon_model.specs.Events.{Event}
 use Rattle.eon_model.specs.EventText.{is_digest, room_for}
 use Rattle.eon_model.specs.Disk.{LeavesOnly}
 use Rattle.eon_model.specs.Journal.{written, left_at, kept_digest}
-use Rattle.eon_model.specs.JournalFault.{IsKept, IsRefusedAt}
-use Rattle.eon_model.specs.Readings.{IsReading, IsSoundJournal}
+use Rattle.eon_model.specs.Readings.{IsSoundJournal}
 use Rattle.eon_model.specs.Replay.{replay}
 use Rattle.eon_model.specs.Wider.{Widens}
 use Rattle.eon_model.specs.TopLines.{migrate_line}
 use Rattle.eon_model.proofs.AppendLaws.{closed-stands, closing-sound}
 use Rattle.eon_model.proofs.BindingLaws.{sound-wider, reading-narrower, bind-forty, binding, bound-stands}
 use Rattle.eon_outside.specs.Reading.{NamedFiles}
-use Rattle.journal_replay.specs.Replayed.{why_told as journal_why_told}
 use Rattle.plan_journal.specs.Faults.{counted_if}
 use Rattle.plan_journal.proofs.MomentLaws.{some_more, started, weaker}
 use Rattle.plan_serve.specs.declared.status.Status.{Status}
-use Rattle.plan_serve.specs.declared.status.Status.TheVariants.{Done, NetRefused, NetLong, NextRefused, NextLong, NotWider, ReadFault, DiskFault, JournalRefused, JournalOther, JournalFull, Memory, WriteFault}
+use Rattle.plan_serve.specs.declared.status.Status.TheVariants.{Done, NextRefused, NextLong, NotWider, ReadFault, DiskFault, JournalRefused, JournalOther, JournalFull, Memory, WriteFault}
 use Rattle.plan_serve.specs.Status.{own_line}
 use Rattle.plan_serve.specs.Files.{IsDigestedFile}
-use Rattle.plan_serve.specs.Outside.{Outside, Output, DiskSeen, output_of}
+use Rattle.plan_serve.specs.Outside.{Outside, Output, DiskSeen}
 use Rattle.plan_serve.specs.Ends.{GivesLine, Says}
-use Rattle.plan_serve.specs.JournalEnds.{Tells, Attaches, AsksFor, ReadsOnly, OverDigested}
-use Rattle.plan_serve.specs.Binding.{bound_events, Replays, IsBound, IsFull, Binds, IsLeftBinding, IsUnbound, MayStop, disk_failed}
+use Rattle.plan_serve.specs.JournalEnds.{Tells, Attaches, AsksFor}
+use Rattle.plan_serve.specs.Binding.{bound_events, IsBound, Binds, IsLeftBinding, MayStop, disk_failed}
 use Rattle.plan_serve.specs.MigrateEnds.{IsMigrated, BindEnds, IsNotWider, EndsAtNext, NextEnds, behind, at_end, IsSafelyBound, IsLeftSafely, MayBeBoundFrom, MayBeBound}
 use Rattle.plan_serve.proofs.TopLaws.{nothing_said}
 

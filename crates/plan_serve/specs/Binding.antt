@@ -1,5 +1,5 @@
 -- What is told of a journal that is bound to a wider network: its bytes, and what a crash may leave of them.
-use Rattle.std.specs.Prelude.{◌≡◌, ◌≢◌, ◌⊎◌, ⊤, ℕ, ◌+◌, ◌<◌, ◌≤◌, Bool, true, false, List, [], ◌∷◌, ◌++◌, length, Option, Some, None, IsSome, IsTrue, Result, Ok, Err}
+use Rattle.std.specs.Prelude.{◌≡◌, ◌≢◌, ◌⊎◌, ⊤, ℕ, ◌+◌, ◌<◌, ◌≤◌, Bool, true, false, List, [], ◌∷◌, ◌++◌, length, Option, Some, IsSome, IsTrue, Result, Ok, Err}
 use Rattle.eon_model.specs.Legal.{Setup}
 use Rattle.eon_model.specs.Events.{Event}
 use Rattle.eon_model.specs.EventText.{is_digest}

@@ -19,7 +19,7 @@ use Rattle.net_widening.specs.Told.{wide_told}
 use Rattle.plan_serve.specs.declared.status.Status.{Status}
 use Rattle.plan_serve.specs.declared.status.Status.TheVariants.{NetRefused, NetLong, NextRefused, NextLong, NotWider, ReadFault, DiskFault, JournalRefused, JournalOther, JournalFull, Memory}
 use Rattle.plan_serve.specs.Files.{IsAcceptedFile, IsRefusedFile, IsLongFile, IsDigestedFile}
-use Rattle.plan_serve.specs.Outside.{Outside, NoFault, Output, output_of, DiskSeen}
+use Rattle.plan_serve.specs.Outside.{Outside, Output, output_of, DiskSeen}
 use Rattle.plan_serve.specs.Ends.{Says, EndsAtNetwork}
 use Rattle.plan_serve.specs.JournalEnds.{Tells, SaysNothing, SaysLine, ReadsOnly, OverDigested, Attaches, FaultsDisk, AsksNothing}
 use Rattle.plan_serve.specs.Binding.{bound_events, IsFull}
