@@ -20,7 +20,7 @@ use Rattle.plan_serve.specs.Ends.{Serves, Begins, GoesOnBehind}
 use Rattle.plan_serve.proofs.StreamLaws.{answers-then, answers-agree, with_mark, mark-below, mark-at, mark-behind, misses-agree, misses-none}
 
 -- the state after some answers
-after-answers : (setup : Setup) (s : Situation) (answers : List Answer) →
+pub after-answers : (setup : Setup) (s : Situation) (answers : List Answer) →
     (after_each (planner Answers setup) s answers).state ≡ state_at_end setup s.state answers
 after-answers setup s [] = refl
 after-answers setup s (a ∷ later) = after-answers setup (situation_after setup s a) later
@@ -100,6 +100,10 @@ module _ (setup : Setup) (start here : Situation) (lines : List (List ℕ)) (tex
         (sym (append-nil (answer_text setup (state_at_end setup start.state h.answers) a)))
         ∙ sym (answers_text-append setup start.state h.answers (a ∷ []));
   }
+
+  pub answers_more : answered_more.answers ≡ h.answers ++ a ∷ []
+  unfolding answered_more
+  answers_more = refl
 
   -- the answers up to `quit`, whatever comes behind it
   pub answered_quit : is_quit line ≡ true → (more : List (List ℕ)) →

@@ -35,12 +35,13 @@ use Rattle.plan_serve.specs.Files.{IsAcceptedFile, IsDigestedFile}
 use Rattle.plan_serve.specs.Outside.{Outside, Output, output_of, DiskSeen}
 use Rattle.eon_model.specs.Run.{situation}
 use Rattle.plan_serve.specs.Ends.{GoesOnBehind, EndsAtNetwork, DryEnds}
+use Rattle.plan_serve.specs.Driving.{DriveOver, DriveEnds}
 use Rattle.plan_serve.specs.JournalEnds.{Tells, MakeEnds, InitEnds, TellEnds, ReplayEnds}
 use Rattle.plan_serve.specs.Binding.{IsFull}
 use Rattle.plan_serve.specs.MigrateEnds.{BindEnds, EndsAtNext, MigrateEnds, MayBeBound, behind, at_end}
 use Rattle.plan_serve.proofs.JournalModeLaws.{made_left}
 use Rattle.plan_serve.proofs.TopLaws.{some_left}
-use Rattle.plan_serve.specs.Top.{Ends, MayServe, MayMake, MayTell, MayBind, MayEnd, MayBeLeft, NoDiskFault, HasRoom, IsRoomy}
+use Rattle.plan_serve.specs.Top.{Ends, MayDrive, MayServe, MayMake, MayTell, MayBind, MayEnd, MayBeLeft, NoDiskFault, HasRoom, IsRoomy}
 
 -- ---- what the words ask for
 
@@ -58,6 +59,7 @@ IsThereFor (Dry net commands) files = IsThere files net × IsThere files command
 IsThereFor (Init net journal) files = IsThere files net
 IsThereFor (Replay net journal) files = IsThere files net
 IsThereFor (Migrate net next journal) files = IsThere files net × IsThere files next
+IsThereFor (Drive net seed count) files = IsThere files net
 IsThereFor t files = ⊤
 
 -- ---- one file, one network
@@ -265,6 +267,21 @@ migrate_done told net next journal bytes before now old new status files disk h 
       ]
 ]
 
+drive_over_done : (setup : Setup) (seed count : ℕ) (before now : Output) (status : Status) →
+    DriveOver setup seed count before now status → (status ≡ WriteFault → ⊥) → (status ≡ Done) ⊎ (status ≡ Memory)
+drive_over_done setup seed count before now Done h no_write = inl refl
+drive_over_done setup seed count before now Memory h no_write = inr refl
+drive_over_done setup seed count before now WriteFault h no_write = absurd (no_write refl)
+drive_over_done setup seed count before now _ h no_write = absurd h.4
+
+drive_done : (told : NamedFiles) (net : List ℕ) (seed count : ℕ) (before now : Outside) (status : Status) →
+    before.files ≡ Some told → DriveEnds net seed count before now status → MayDrive told net →
+    (status ≡ ReadFault → ⊥) → (status ≡ WriteFault → ⊥) → (status ≡ Done) ⊎ (status ≡ Memory)
+drive_done told net seed count before now status files (inl h) may no_read no_write =
+    inr (accepted_ends told net may.setup may.network before now files status h no_read)
+drive_done told net seed count before now status files (inr h) may no_read no_write =
+    drive_over_done h.1.0 seed count (output_of before) (output_of now) status h.1.2 no_write
+
 -- ---- all modes
 
 done : (task : Option Task) (before now : Outside) (old new : DiskSeen) (status : Status) →
@@ -283,11 +300,13 @@ done (Some (Init net journal)) before now old new status (Some told) None is dis
 done (Some (Replay net journal)) before now old new status None bytes is disk h may no_read no_write no_disk = absurd may
 done (Some (Replay net journal)) before now old new status (Some told) None is disk h may no_read no_write no_disk = absurd may
 done (Some (Serve net journal commands)) before now old new status files bytes is disk h may no_read no_write no_disk = absurd may
-done (Some (Drive net seed count)) before now old new status files bytes is disk h may no_read no_write no_disk = absurd may
 done (Some (Migrate net next journal)) before now old new status (Some told) (Some bytes) is disk h may no_read no_write no_disk =
     migrate_done told net next journal bytes before now old new status is disk h may no_read no_write no_disk
 done (Some (Migrate net next journal)) before now old new status None bytes is disk h may no_read no_write no_disk = absurd may
 done (Some (Migrate net next journal)) before now old new status (Some told) None is disk h may no_read no_write no_disk = absurd may
+done (Some (Drive net seed count)) before now old new status (Some told) bytes is disk h may no_read no_write no_disk =
+    drive_done told net seed count before now status is h may no_read no_write
+done (Some (Drive net seed count)) before now old new status None bytes is disk h may no_read no_write no_disk = absurd may
 done (Some (Live net journal commands)) before now old new status files bytes is disk h may no_read no_write no_disk = absurd may
 done (Some (Room net journal commands)) before now old new status files bytes is disk h may no_read no_write no_disk = absurd may
 done None before now old new status files bytes is disk h may no_read no_write no_disk = absurd may
@@ -301,11 +320,11 @@ read_counted (Some (Init net journal)) before now old new h = elim h [ inl k ↦
 read_counted (Some (Replay net journal)) before now old new h =
     elim h.1 [ inl k ↦ k.1.0 | inr k ↦ absurd k.1.3.1.3 ]
 read_counted (Some (Serve net journal commands)) before now old new h = absurd h
-read_counted (Some (Drive net seed count)) before now old new h = absurd h
 read_counted (Some (Migrate net next journal)) before now old new h = elim h [
   | inl k ↦ k.1.0
   | inr k ↦ elim k.3 [ inl j ↦ j.1.1 | inr j ↦ absurd j.1.3.1.2 ]
 ]
+read_counted (Some (Drive net seed count)) before now old new h = elim h [ inl k ↦ k.0 | inr k ↦ absurd k.1.2.4 ]
 read_counted (Some (Live net journal commands)) before now old new h = absurd h
 read_counted (Some (Room net journal commands)) before now old new h = absurd h
 read_counted None before now old new h = absurd h
@@ -317,11 +336,11 @@ write_counted (Some (Init net journal)) before now old new h = elim h [ inl k �
 write_counted (Some (Replay net journal)) before now old new h =
     elim h.1 [ inl k ↦ absurd k.1 | inr k ↦ k.1.3.1.3.1 ]
 write_counted (Some (Serve net journal commands)) before now old new h = absurd h
-write_counted (Some (Drive net seed count)) before now old new h = absurd h
 write_counted (Some (Migrate net next journal)) before now old new h = elim h [
   | inl k ↦ absurd k.1
   | inr k ↦ elim k.3 [ inl j ↦ absurd j.1 | inr j ↦ j.1.3.1.2.1 ]
 ]
+write_counted (Some (Drive net seed count)) before now old new h = elim h [ inl k ↦ absurd k | inr k ↦ k.1.2.4.1 ]
 write_counted (Some (Live net journal commands)) before now old new h = absurd h
 write_counted (Some (Room net journal commands)) before now old new h = absurd h
 write_counted None before now old new h = absurd h
@@ -333,11 +352,11 @@ disk_counted (Some (Init net journal)) before now old new h none = elim h [ inl 
 disk_counted (Some (Replay net journal)) before now old new h none =
     elim h.1 [ inl k ↦ k.1 | inr k ↦ none k.1.3.0.1 ]
 disk_counted (Some (Serve net journal commands)) before now old new h none = h
-disk_counted (Some (Drive net seed count)) before now old new h none = h
 disk_counted (Some (Migrate net next journal)) before now old new h none = elim h [
   | inl k ↦ k.1
   | inr k ↦ elim k.3 [ inl j ↦ j.1 | inr j ↦ none j.1.3.1.0.1 ]
 ]
+disk_counted (Some (Drive net seed count)) before now old new h none = elim h [ inl k ↦ k | inr k ↦ k.1.2.4 ]
 disk_counted (Some (Live net journal commands)) before now old new h none = h
 disk_counted (Some (Room net journal commands)) before now old new h none = h
 disk_counted None before now old new h none = h
@@ -422,13 +441,18 @@ broken (Some (Replay net journal)) before now disk later old new h roomy same co
       (roomy k.1.0 k.1.1 t.0 t.1 k.1.2 t.2) same counts sure
 ]
 broken (Some (Serve net journal commands)) before now disk later old new h roomy same counts sure = h
-broken (Some (Drive net seed count)) before now disk later old new h roomy same counts sure = h
 broken (Some (Migrate net next journal)) before now disk later old new h roomy same counts sure = elim h [
   | inl k ↦ k.1
   | inr k ↦ elim k.3 [
     | inl j ↦ j.1
     | inr j ↦ tells_broken migrate_line (output_of before) (output_of now) old new j.1.3.1.2 roomy same counts sure
   ]
+]
+broken (Some (Drive net seed count)) before now disk later old new h roomy same counts sure = elim h [
+  | inl k ↦ k
+  | inr k ↦
+      let t = k.1.2 in
+      tells_broken t.1 (output_of before) (output_of now) old new t.4 (roomy k.1.0 t.0 t.1 k.1.1 t.2) same counts sure
 ]
 broken (Some (Live net journal commands)) before now disk later old new h roomy same counts sure = h
 broken (Some (Room net journal commands)) before now disk later old new h roomy same counts sure = h
@@ -463,13 +487,14 @@ there task t files bytes is may = by_task t files bytes (subst (λ (v : Option T
     by_task (Replay net journal) None bytes may = absurd may
     by_task (Replay net journal) (Some told) None may = absurd may
     by_task (Serve net journal commands) files bytes may = absurd may
-    by_task (Drive net seed count) files bytes may = absurd may
     by_task (Migrate net next journal) (Some told) (Some bytes) may = (
       is_there told net may.network.bytes may.network.told,
       is_there told next may.next_network.bytes may.next_network.told,
     )
     by_task (Migrate net next journal) None bytes may = absurd may
     by_task (Migrate net next journal) (Some told) None may = absurd may
+    by_task (Drive net seed count) (Some told) bytes may = is_there told net may.network.0 may.network.1
+    by_task (Drive net seed count) None bytes may = absurd may
     by_task (Live net journal commands) files bytes may = absurd may
     by_task (Room net journal commands) files bytes may = absurd may
 

@@ -7,6 +7,7 @@ pub mod AnsweredLaws
 pub mod GoesLaws
 pub mod HeldLaws
 pub mod FeedLaws
+pub mod DriveLaws
 pub mod EndLaws
 pub mod TopLaws
 pub mod JournalModeLaws

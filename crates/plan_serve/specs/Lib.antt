@@ -1,5 +1,6 @@
 pub mod Answering
 pub mod Binding
+pub mod Driving
 pub mod Ends
 pub mod Files
 pub mod JournalEnds

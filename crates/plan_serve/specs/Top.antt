@@ -6,9 +6,10 @@ use Rattle.eon_model.specs.Services.{State}
 use Rattle.eon_model.specs.Legal.{Setup}
 use Rattle.eon_model.specs.Events.{Event}
 use Rattle.eon_model.specs.Modes.{Task, is_long_stream}
-use Rattle.eon_model.specs.Modes.Task.{Dry, Init, Replay, Migrate}
+use Rattle.eon_model.specs.Modes.Task.{Dry, Init, Replay, Drive, Migrate}
 use Rattle.eon_model.specs.TopLines.{usage_line, init_line, replay_text, migrate_line}
 use Rattle.eon_model.specs.Journal.{left_at, Stands}
+use Rattle.eon_model.specs.DriveSummary.{Drives}
 use Rattle.eon_model.specs.Replay.{replay}
 use Rattle.eon_model.specs.Run.{Runs}
 use Rattle.eon_model.specs.Wider.{Widens}
@@ -22,6 +23,7 @@ use Rattle.eon_model.specs.Answers.{Answers}
 use Rattle.plan_serve.specs.Files.{IsAcceptedFile, IsDigestedFile}
 use Rattle.plan_serve.specs.Outside.{Outside, DiskSeen, NotRead}
 use Rattle.plan_serve.specs.Ends.{Says, DryEnds}
+use Rattle.plan_serve.specs.Driving.{DriveEnds}
 use Rattle.plan_serve.specs.JournalEnds.{InitEnds, ReplayEnds, LeadsTo, MayBeMade}
 use Rattle.plan_serve.specs.MigrateEnds.{MigrateEnds, StopsEarly, MayBeBound}
 
@@ -44,6 +46,7 @@ Ends (Some (Init net journal)) before now old new status = InitEnds net journal 
 Ends (Some (Replay net journal)) before now old new status = ReplayEnds net journal before now old new status
 Ends (Some (Migrate net next journal)) before now old new status =
     MigrateEnds net next journal before now old new status
+Ends (Some (Drive net seed count)) before now old new status = DriveEnds net seed count before now status
 Ends None before now old new Words = SaysOnly usage_line before now
 Ends None before now old new Memory = DoesNothing before now
 Ends None before now old new _ = ⊥
@@ -58,6 +61,7 @@ AskedAt (Some (Dry net commands)) status = (status ≢ Words) × (status ≢ Lat
 AskedAt (Some (Init net journal)) status = (status ≢ Words) × (status ≢ Later)
 AskedAt (Some (Replay net journal)) status = (status ≢ Words) × (status ≢ Later)
 AskedAt (Some (Migrate net next journal)) status = (status ≢ Words) × (status ≢ Later)
+AskedAt (Some (Drive net seed count)) status = (status ≢ Words) × (status ≢ Later)
 AskedAt (Some _) status = (status ≡ Later) ⊎ (status ≡ Memory)
 
 -- ---- the disk
@@ -137,12 +141,18 @@ pub record MayBind (told : NamedFiles) (net next bytes : List ℕ) : Type 0 wher
   pub replays : IsSome (replay setup events)
   pub room : 40 ≤ left_at setup.journal place
 
+-- The network is accepted.
+pub record MayDrive (told : NamedFiles) (net : List ℕ) : Type 0 where
+  pub setup : Setup
+  pub network : IsAcceptedFile (Some told) net setup
+
 -- the words ask for a mode that is built, and its files and its disk allow it
 abbrev pub MayEnd : Option Task → Option NamedFiles → Option (List ℕ) → Type 0
 MayEnd (Some (Dry net commands)) (Some told) bytes = MayServe told net commands
 MayEnd (Some (Init net journal)) (Some told) (Some bytes) = MayMake told net bytes
 MayEnd (Some (Replay net journal)) (Some told) (Some bytes) = MayTell told net bytes
 MayEnd (Some (Migrate net next journal)) (Some told) (Some bytes) = MayBind told net next bytes
+MayEnd (Some (Drive net seed count)) (Some told) bytes = MayDrive told net
 MayEnd task files bytes = ⊥
 
 -- the sink is sure of room for so many bytes more
@@ -163,4 +173,7 @@ IsRoomy (Some (Replay net journal)) files disk given standing =
     → IsDigestedFile files net setup digest → LeadsTo setup digest disk events state
     → HasRoom given standing (length (replay_text setup events state))
 IsRoomy (Some (Migrate net next journal)) files disk given standing = HasRoom given standing (length migrate_line)
+IsRoomy (Some (Drive net seed count)) files disk given standing =
+    (setup : Setup) (missed output : List ℕ) → IsAcceptedFile files net setup → Drives setup seed count missed output
+    → HasRoom given standing (length output)
 IsRoomy task files disk given standing = ⊤

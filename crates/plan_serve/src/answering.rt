@@ -40,7 +40,7 @@ fn reply_to_command(core: &mut Core, command: &Command) -> Reply
 }
 
 /// The reply to a line. Its change is made.
-fn reply_to(core: &mut Core, line: &[u8]) -> Reply
+pub(crate) fn reply_to(core: &mut Core, line: &[u8]) -> Reply
     ensures setup { core.new.setup ≡ core.old.setup }
     ensures decides { Decides core.old.setup (situation core.old.state None) (situation core.new.state None) line.now result }
 {

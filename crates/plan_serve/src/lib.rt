@@ -4,6 +4,7 @@
 #![tactic(auto)]
 
 mod answering;
+mod drive;
 mod fault_line;
 mod journal;
 mod migrate;

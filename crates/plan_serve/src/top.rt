@@ -13,6 +13,7 @@ ghost use Rattle.plan_serve.specs.Outside.{outside, disk_seen};
 ghost use Rattle.plan_serve.specs.Ends.{DryEnds, StreamEnds, AnswersStream, CountsReads, StandsAt};
 ghost use Rattle.plan_serve.specs.Top.{Ends, AskedAt, NeedsNoDisk, MayBeLeft, NoDiskFault, IsToldFor, MayEnd, IsRoomy};
 
+use crate::drive::drive;
 use crate::journal::{make_journal, tell_journal};
 use crate::migrate::migrate;
 use crate::network::read_network;
@@ -34,7 +35,8 @@ const HELD_BACK: usize = 65_536;
 
 /// Does what the words ask for. `dry NET COMMANDS` answers each line of a command stream over a network, up to `quit`.
 /// `init NET JOURNAL` makes a journal for the network, and `replay NET JOURNAL` tells how many events stand in it, and the
-/// list that they lead to. `migrate NET NEXT JOURNAL` binds the journal of a network to a wider one. The files are opened by the shelf, the journal is attached to the disk, and what is said is
+/// list that they lead to. `migrate NET NEXT JOURNAL` binds the journal of a network to a wider one, and `drive NET SEED COUNT`
+/// answers commands that are made from a seed, and sums up the replies. The files are opened by the shelf, the journal is attached to the disk, and what is said is
 /// given to `out`.
 pub fn plan_main<H: Shelf, K: Sink, D: Deck>(
     alloc: Global,
@@ -68,6 +70,7 @@ pub fn plan_main<H: Shelf, K: Sink, D: Deck>(
         Ok(Words::Migrate { net, next, journal }) => {
             migrate(alloc, net, next, journal, shelf, out, disk)
         }
+        Ok(Words::Drive { net, seed, count }) => drive(alloc, net, seed, count, shelf, out),
         Ok(_) => refuse(out, Status::Later),
         Err(WordsFault::Refused) => refuse(out, Status::Words),
         Err(WordsFault::Memory) => Status::Memory,

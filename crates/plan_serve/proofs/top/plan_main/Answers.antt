@@ -1,6 +1,6 @@
 use Rattle.std.proofs.Common.{refl, sym, subst, Option}
 use Rattle.eon_model.specs.Modes.{Task}
-use Rattle.eon_model.specs.Modes.Task.{Dry, Init, Replay, Migrate}
+use Rattle.eon_model.specs.Modes.Task.{Dry, Init, Replay, Migrate, Drive}
 use Rattle.eon_model.specs.Disk.{LeavesOnly}
 use Rattle.plan_words.specs.declared.words.Words.TheVariants as word
 use Rattle.plan_serve.specs.Outside.{outside, disk_seen}
@@ -227,3 +227,48 @@ returns-in-Ok-Migrate-clause-moments g c = λ told.
     c.in-Ok-Migrate.net.now c.in-Ok-Migrate.next.now c.in-Ok-Migrate.journal.now c.migrate.result
     (g.H.Shelf.files c.args.shelf.now)
     (subst (λ (v : Option Task). IsToldFor v (g.D.Disk.now disk)) is told) c.migrate.ensures.moments)
+
+-- ---- Drive
+
+pub returns-in-Ok-Drive-clause-completeness : goal.returns-in-Ok-Drive-clause-completeness
+returns-in-Ok-Drive-clause-completeness g c = λ may no_read no_write no_disk.
+    let task = Drive c.in-Ok-Drive.net.now c.in-Ok-Drive.seed c.in-Ok-Drive.count in
+    let is = task_is _ (word.Drive c.in-Ok-Drive.net c.in-Ok-Drive.seed c.in-Ok-Drive.count) _ c.in-Ok-Drive.ensures.task
+    c.in-Ok-Drive.field-0-is in
+    let shelf = c.args.shelf.now in
+    let later = c.drive.new.shelf in
+    let disk = c.args.disk.now in
+    let kept = c.args.disk.now in
+    let before = outside (g.H.Shelf.files shelf) (g.H.Shelf.opened shelf) (g.H.Shelf.left shelf) (g.H.Shelf.faults shelf)
+    (g.K.Sink.given c.args.out.now) (g.K.Sink.standing c.args.out.now) in
+    let now = outside (g.H.Shelf.files later) (g.H.Shelf.opened later) (g.H.Shelf.left later) (g.H.Shelf.faults later)
+    (g.K.Sink.given c.drive.new.out) (g.K.Sink.standing c.drive.new.out) in
+    let old = disk_seen (g.D.Disk.now disk) (g.D.Disk.images disk) (g.D.Disk.asked disk) (g.D.Disk.faults disk) in
+    let new = disk_seen (g.D.Disk.now kept) (g.D.Disk.images kept) (g.D.Disk.asked kept) (g.D.Disk.faults kept) in
+    let ends = ends_as _ task before now old new c.drive.result is c.drive.ensures.ends in
+    completes _ before now old new c.drive.result ends may no_read no_write no_disk
+
+pub returns-in-Ok-Drive-clause-calm : goal.returns-in-Ok-Drive-clause-calm
+returns-in-Ok-Drive-clause-calm g c = λ may calm roomy no_disk.
+    let task = Drive c.in-Ok-Drive.net.now c.in-Ok-Drive.seed c.in-Ok-Drive.count in
+    let is = task_is _ (word.Drive c.in-Ok-Drive.net c.in-Ok-Drive.seed c.in-Ok-Drive.count) _ c.in-Ok-Drive.ensures.task
+    c.in-Ok-Drive.field-0-is in
+    let shelf = c.args.shelf.now in
+    let later = c.drive.new.shelf in
+    let disk = c.args.disk.now in
+    let kept = c.args.disk.now in
+    let before = outside (g.H.Shelf.files shelf) (g.H.Shelf.opened shelf) (g.H.Shelf.left shelf) (g.H.Shelf.faults shelf)
+    (g.K.Sink.given c.args.out.now) (g.K.Sink.standing c.args.out.now) in
+    let now = outside (g.H.Shelf.files later) (g.H.Shelf.opened later) (g.H.Shelf.left later) (g.H.Shelf.faults later)
+    (g.K.Sink.given c.drive.new.out) (g.K.Sink.standing c.drive.new.out) in
+    let old = disk_seen (g.D.Disk.now disk) (g.D.Disk.images disk) (g.D.Disk.asked disk) (g.D.Disk.faults disk) in
+    let new = disk_seen (g.D.Disk.now kept) (g.D.Disk.images kept) (g.D.Disk.asked kept) (g.D.Disk.faults kept) in
+    let ends = ends_as _ task before now old new c.drive.result is c.drive.ensures.ends in
+    let files = there _ task (g.H.Shelf.files shelf) (g.D.Disk.now disk) is may in
+    calm_ends _ before now old new (g.K.Sink.standing c.args.out.now) (g.K.Sink.standing c.drive.new.out) c.drive.result ends
+    may roomy (c.drive.ensures.calm calm files) c.drive.ensures.room refl
+    (g.met.K.Sink.sure c.drive.new.out) no_disk
+
+pub returns-in-Ok-Drive-clause-moments : goal.returns-in-Ok-Drive-clause-moments
+returns-in-Ok-Drive-clause-moments g c = λ told.
+    none_made g.D.Disk.clock g.D.Disk.images_since g.D.Disk.images g.met.D.Disk.only_now c.args.disk.now _ c.drive.result _ _
