@@ -9,6 +9,7 @@ pub mod refitting;
 pub use answers::{Make, Refit};
 pub use eon_base::name::Name;
 pub use flex_grid::band::Band;
+pub use kept_routes::KeptRoutes;
 pub use leg_state::{Class, Leg, Services};
 pub use making::make;
 pub use net_setup::NetSetup;

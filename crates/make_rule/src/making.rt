@@ -17,10 +17,10 @@ ghost use Rattle.make_rule.specs.Told.{make_told, made_on, IfStarted, IsOnFirst}
 use crate::answers::Make;
 use admission::{Admit, first, leg_at};
 use eon_base::name::Name;
+use kept_routes::{KeptRoutes, PairList, pairs_kept};
 use leg_state::{Service, Services};
 use net_graph::Net;
 use net_setup::NetSetup;
-use pair_list::{PairList, pairs};
 use std::alloc::{AllocError, Global};
 
 // The number of the fibre to avoid, if one is named; or the name, which no fibre has.
@@ -65,17 +65,21 @@ fn placed(setup: &NetSetup, services: &Services, service: &Service, pairs: PairL
 // The candidates of a second leg of the service.
 fn candidates_of(
     alloc: Global,
+    kept: &mut KeptRoutes,
     setup: &NetSetup,
     service: &Service,
     avoid: Option<u8>,
 ) -> Result<PairList, AllocError>
+    requires same { kept.old ≡ setup.now }
     requires in_range { IsTrue (is_setup setup.now) }
     requires listed { IsTrue (is_listed setup.now service.now) }
     requires avoid { IfSome avoid (λ fibre. fibre < length setup.now.network.fibres) }
-    ensures { IfOk result (λ ps. ps ≡ candidates setup.now service.now.src service.now.dst service.now.rate service.now.class avoid) }
+    ensures candidates { IfOk result (λ ps. ps ≡ candidates setup.now service.now.src service.now.dst service.now.rate service.now.class avoid) }
+    ensures same { kept.new ≡ kept.old }
 {
-    pairs(
+    pairs_kept(
         alloc,
+        kept,
         setup,
         service.src,
         service.dst,
@@ -87,19 +91,23 @@ fn candidates_of(
 
 /// What becomes of a make for the service of this name, whose new working route leaves out the fibre to avoid, if one
 /// is named: the first case of `Make` that holds. The second leg is the first on which the service may stand beside its
-/// own leg and all others. Its backup may share units with that of the own leg unless the class is dual.
+/// own leg and all others. Its backup may share units with that of the own leg unless the class is dual. The routes are
+/// taken from the table, or are searched for and then kept there.
 pub fn make(
     alloc: Global,
+    kept: &mut KeptRoutes,
     setup: &NetSetup,
     services: &Services,
     name: &Name,
     avoid: &Option<Name>,
 ) -> Result<Make, AllocError>
+    requires same { kept.old ≡ setup.now }
     requires in_range { IsTrue (is_setup setup.now) }
     requires listed { IfSome (service_of services.now.list name.now) (λ s. IsTrue (is_listed setup.now s)) }
     requires legal { Legal setup.now services.now.list }
     ensures is { IfOk result (λ m. make_told name.now m ≡ step.make setup.now services.now.list name.now avoid.now) }
     ensures leg { IfOk result (λ m. IfStarted m (λ leg. events.leg_told setup.now.network (events.leg_text_of leg) ≡ leg)) }
+    ensures same { kept.new ≡ kept.old }
 {
     admission::laws::first_is_of_a_second_leg();
     let Some(service) = services.find(name) else {
@@ -112,6 +120,6 @@ pub fn make(
     if service.is_moving() {
         return Ok(Make::Busy);
     }
-    let pairs = candidates_of(alloc, setup, service, fibre)?;
+    let pairs = candidates_of(alloc, kept, setup, service, fibre)?;
     Ok(placed(setup, services, service, pairs))
 }

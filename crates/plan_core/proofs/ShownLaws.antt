@@ -17,14 +17,11 @@ use Rattle.eon_model.proofs.FoundLaws.{found}
 use Rattle.eon_model.proofs.ListTests.{list_all-below}
 use Rattle.eon_model.proofs.RouteLaws.{walks-IsListed}
 use Rattle.eon_model.proofs.SetupLaws.{setup-EndsAreNodes}
-use Rattle.std.specs.FinSet.{empty}
 use Rattle.std.specs.Option.{option_map}
 use Rattle.eon_model.specs.Names.{Name}
-use Rattle.eon_model.specs.Sets.{NumberSet, has_member}
 use Rattle.eon_model.specs.Replies.{Reply}
 use Rattle.eon_model.specs.Step.{Say, or_else, is_node, node_numbered, routes_shown, routes}
 use Rattle.eon_model.proofs.SetupFacts.{setup-facts}
-use Rattle.pair_list.proofs.BanLaws.{routes-alike, avoided-none}
 use Rattle.reply_text.specs.Tellable.{can_show}
 
 -- ---- a format that reaches
@@ -167,12 +164,6 @@ pub shown-over : (setup : Setup) (s t : ℕ) (rs : List Route) → is_setup setu
 shown-over setup s t rs ok is =
     ap (list_all (can_show setup)) is ∙ first-shown setup s t (λ fibre. false) setup.k ok (setup-facts setup ok).some_formats
 
--- no fibre is banned
-pub none-banned : (net : Network) (s t k max_km : ℕ) →
-    first_routes net s t (has_member empty) k max_km ≡ first_routes net s t (λ fibre. false) k max_km
-none-banned net s t k max_km =
-    routes-alike net s t (has_member empty) (λ fibre. false) k max_km (λ i low. avoided-none i)
-
 -- an end that is no node
 pub routes-unknown : (setup : Setup) (s t name : Name) →
     Some name ≡ find (λ n. not (is_node setup.network n)) (s ∷ t ∷ []) →
@@ -191,11 +182,3 @@ routes-known setup s t rs none is =
     ap (λ v. Say (Reply.Routes v)) is
     ∙ ap (λ o. or_else (option_map Reply.Unknown o)
     (Say (Reply.Routes (routes_shown setup (node_numbered setup.network s) (node_numbered setup.network t))))) none
-
--- what was searched are the routes that are shown
-pub shown-found : (setup : Setup) (s t : ℕ) (banned : NumberSet) (rs : List Route) →
-    rs ≡ first_routes setup.network s t (has_member banned) setup.k (max_reach setup.formats) → banned ≡ empty →
-    rs ≡ routes_shown setup s t
-shown-found setup s t banned rs h is =
-    h ∙ ap (λ (b : NumberSet). first_routes setup.network s t (has_member b) setup.k (max_reach setup.formats)) is
-    ∙ none-banned setup.network s t setup.k (max_reach setup.formats)

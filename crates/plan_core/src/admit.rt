@@ -17,9 +17,9 @@ use crate::place::new_service;
 use crate::proposal::{Proposal, enter, say};
 use crate::refusal::refused_service;
 use admission::{Admit, first, leg_at};
+use kept_routes::{KeptRoutes, PairList, pairs_kept};
 use leg_state::{Service, Services};
 use net_setup::NetSetup;
-use pair_list::{PairList, pairs};
 use reply_text::Reply;
 use std::alloc::{AllocError, Global};
 
@@ -47,16 +47,19 @@ fn admitted_service(
 /// What `admit` comes to.
 pub fn admit(
     alloc: Global,
+    kept: &mut KeptRoutes,
     setup: &NetSetup,
     services: &Services,
     demand: &Demand,
 ) -> Result<Proposal, AllocError>
+    requires same { kept.old ≡ setup.now }
     requires in_range { IsTrue (is_setup setup.now) }
     requires rate { IsTrue (is_rate demand.now.rate) }
     requires legal { Legal setup.now services.now.list }
     requires right { IsTrue (is_command (asked.Admit demand.now)) }
     ensures is { IfOk result (λ p. outcome_told p.decision ≡ step.admit setup.now services.now.list demand.now) }
     ensures prepared { IfOk result (λ p. IsPrepared setup.now.network p.decision p.prepared) }
+    ensures same { kept.new ≡ kept.old }
 {
     admission::laws::first_is_of_a_new_service();
     if let Some(reply) = refused_service(setup, services, demand) {
@@ -64,7 +67,16 @@ pub fn admit(
     }
     let src = node_numbered(&setup.net, &demand.src);
     let dst = node_numbered(&setup.net, &demand.dst);
-    let pairs = pairs(alloc, setup, src, dst, demand.rate, demand.class, None)?;
+    let pairs = pairs_kept(
+        alloc,
+        kept,
+        setup,
+        src,
+        dst,
+        demand.rate,
+        demand.class,
+        None,
+    )?;
     match admitted_service(setup, services, demand, pairs) {
         Ok(service) => Ok(enter(service, Reply::Admitted { name: demand.name })),
         Err(reply) => Ok(say(reply)),

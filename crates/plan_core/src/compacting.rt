@@ -15,6 +15,7 @@ use crate::dispatch::proposal_for;
 use crate::proposal::{Prepared, Proposal, say};
 use command_text::Command;
 use compact_plan::{Compact, compact};
+use kept_routes::KeptRoutes;
 use leg_state::Services;
 use net_setup::NetSetup;
 use plan_batches::batches;
@@ -46,10 +47,12 @@ fn is_compact(command: &Command) -> bool
 /// What a command comes to.
 pub fn propose(
     alloc: Global,
+    kept: &mut KeptRoutes,
     setup: &NetSetup,
     services: &Services,
     command: &Command,
 ) -> Result<Proposal, AllocError>
+    requires same { kept.old ≡ setup.now }
     requires setup { IsTrue (is_setup setup.now) }
     requires named { IsTrue (is_state services.now.list) }
     requires legal { Legal setup.now services.now.list }
@@ -57,10 +60,11 @@ pub fn propose(
     ensures proposed { IfOk result (IsProposed setup.now services.now.list (told command.now)) }
     ensures no_memory { takes_memory (told command.now) ≡ false → IfOk result (λ p. p.prepared ≡ Prepared.Nothing) }
     ensures answered { takes_memory (told command.now) ≡ false → IsOk result }
+    ensures same { kept.new ≡ kept.old }
 {
     if is_compact(command) {
         let reply = plan(alloc, setup, services)?;
         return Ok(say(reply));
     }
-    proposal_for(alloc, setup, services, command)
+    proposal_for(alloc, kept, setup, services, command)
 }

@@ -25,6 +25,7 @@ use command_text::Command;
 use eon_base::name::Name;
 use eon_model::Class;
 use journal_record::Event;
+use kept_routes::KeptRoutes;
 use leg_state::Services;
 use net_setup::NetSetup;
 use reply_text::Reply;
@@ -71,10 +72,12 @@ fn demand_of(name: &Name, src: &Name, dst: &Name, rate: u32, class: Class) -> De
 /// What a command comes to, but `compact`.
 pub fn proposal_for(
     alloc: Global,
+    kept: &mut KeptRoutes,
     setup: &NetSetup,
     services: &Services,
     command: &Command,
 ) -> Result<Proposal, AllocError>
+    requires same { kept.old ≡ setup.now }
     requires setup { IsTrue (is_setup setup.now) }
     requires named { IsTrue (is_state services.now.list) }
     requires legal { Legal setup.now services.now.list }
@@ -84,6 +87,7 @@ pub fn proposal_for(
     ensures prepared { IfOk result (λ p. IsPrepared setup.now.network p.decision p.prepared) }
     ensures no_memory { takes_memory (told command.now) ≡ false → IfOk result (λ p. p.prepared ≡ Prepared.Nothing) }
     ensures answered { takes_memory (told command.now) ≡ false → IsOk result }
+    ensures same { kept.new ≡ kept.old }
 {
     match command {
         Command::Place {
@@ -107,11 +111,11 @@ pub fn proposal_for(
             class,
         } => {
             let demand = demand_of(name, src, dst, *rate, *class);
-            admit(alloc, setup, services, &demand)
+            admit(alloc, kept, setup, services, &demand)
         }
         Command::Release { name } => Ok(release(services, name)),
         Command::Push { name, n } => Ok(push(setup, services, name, *n)),
-        Command::Make { name, avoid } => second_leg(alloc, setup, services, name, avoid),
+        Command::Make { name, avoid } => second_leg(alloc, kept, setup, services, name, avoid),
         Command::Finish { name } => Ok(finish(services, name)),
         Command::Back { name } => Ok(back(services, name)),
         Command::Refit { name } => Ok(refit(setup, services, name)),
@@ -121,7 +125,7 @@ pub fn proposal_for(
         Command::Stats => Ok(say(stats(setup, services))),
         Command::Report => Ok(say(report(alloc, setup, services)?)),
         Command::Drill { group } => Ok(say(drill(alloc, setup, services, group)?)),
-        Command::Routes { src, dst } => Ok(say(routes_between(alloc, setup, src, dst)?)),
+        Command::Routes { src, dst } => Ok(say(routes_between(alloc, kept, setup, src, dst)?)),
         Command::Quit => Ok(say(Reply::Bye)),
         Command::Compact => unreachable!(),
     }

@@ -22,23 +22,27 @@ use crate::live::Live;
 use crate::proposal::{Prepared, Proposal};
 use command_text::Command;
 use journal_record::Event;
+use kept_routes::KeptRoutes;
 use leg_state::Services;
 use net_setup::NetSetup;
 use std::alloc::{AllocError, Global};
 use std::marker::Model;
 
 /// A network and its live services. A contract sees the setup, the state, and the change that waits: that of the
-/// last step that did not want memory, where it answered a change, and it was not applied since.
+/// last step that did not want memory, where it answered a change, and it was not applied since. Beside these it keeps
+/// routes that were searched for, which no contract sees: they are what a search on the network gives.
 #[derive(Drop)]
 pub struct Core {
     setup: NetSetup,
     live: Live,
     prepared: Prepared,
     awaited: Awaited,
+    kept: KeptRoutes,
     alloc: Global,
 }
 
 impl Model for Core {
+    ghost use Rattle.std.specs.Prelude.{◌≡◌};
     ghost use Rattle.plan_core.specs.Seen.{CoreSeen, seen_code, IsKept};
 
     ghost Value = { CoreSeen };
@@ -47,7 +51,7 @@ impl Model for Core {
 
     ghost view = { λ c. record { setup = c.setup; state = c.live.services.list; waiting = c.awaited.event } };
 
-    ghost invariant = { λ c. IsKept c.setup c.live.services.list c.live.services.spare c.prepared c.awaited.event };
+    ghost invariant = { λ c. (c.kept ≡ c.setup) × IsKept c.setup c.live.services.list c.live.services.spare c.prepared c.awaited.event };
 }
 
 impl Core {
@@ -58,11 +62,13 @@ impl Core {
         ensures state { IfOk result (λ c. c.state ≡ []) }
         ensures waiting { IfOk result (λ c. c.waiting ≡ None) }
     {
+        let kept = KeptRoutes::new(alloc, &setup);
         Ok(Core {
             setup,
             live: Live::new(alloc),
             prepared: Prepared::Nothing,
             awaited: Awaited::none(),
+            kept,
             alloc,
         })
     }
@@ -113,7 +119,13 @@ impl Core {
         ensures can_tell { IfOk result (λ d. CanBeTold self.old.setup self.old.state d) }
         ensures no_memory { takes_memory (told c.now) ≡ false → IsOk result }
     {
-        let proposal = propose(self.alloc, &self.setup, &self.live.services, c)?;
+        let proposal = propose(
+            self.alloc,
+            &mut self.kept,
+            &self.setup,
+            &self.live.services,
+            c,
+        )?;
         self.hold(proposal)
     }
 

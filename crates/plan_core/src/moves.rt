@@ -18,6 +18,7 @@ use crate::proposal::{Prepared, Proposal, change, make, say};
 use eon_base::name::Name;
 use eon_model::Part;
 use journal_record::Event;
+use kept_routes::KeptRoutes;
 use leg_state::Services;
 use make_rule::{Make, Refit};
 use net_setup::NetSetup;
@@ -148,18 +149,21 @@ fn made(name: &Name, decided: Make) -> Proposal
 /// What `make` comes to.
 pub fn second_leg(
     alloc: Global,
+    kept: &mut KeptRoutes,
     setup: &NetSetup,
     services: &Services,
     name: &Name,
     avoid: &Option<Name>,
 ) -> Result<Proposal, AllocError>
+    requires same { kept.old ≡ setup.now }
     requires in_range { IsTrue (is_setup setup.now) }
     requires named { IsTrue (is_state services.now.list) }
     requires legal { Legal setup.now services.now.list }
     requires right { IsTrue (is_command (asked.Make name.now avoid.now)) }
     ensures is { IfOk result (λ p. outcome_told p.decision ≡ step.make setup.now services.now.list name.now avoid.now) }
     ensures prepared { IfOk result (λ p. IsPrepared setup.now.network p.decision p.prepared) }
+    ensures same { kept.new ≡ kept.old }
 {
-    let decided = make_rule::make(alloc, setup, services, name, avoid)?;
+    let decided = make_rule::make(alloc, kept, setup, services, name, avoid)?;
     Ok(made(name, decided))
 }

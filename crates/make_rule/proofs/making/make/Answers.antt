@@ -37,7 +37,7 @@ returns-clause-is c =
     (ap (λ (s : Setup). s.network) c.setup.view_is) c.in-Ok.ensures.known)
     (sym c.is_moving.ensures ∙ c.if-is_moving.false) c.in-Ok.fibre c.in_ok-pairs.pairs
     (subst (λ (net : Network). c.in-Ok.fibre ≡ option_and_then (fibre_of net) c.args.avoid.now)
-    (ap (λ (s : Setup). s.network) c.setup.view_is) c.in-Ok.ensures.number) c.in_ok-pairs.ensures
+    (ap (λ (s : Setup). s.network) c.setup.view_is) c.in-Ok.ensures.number) c.in_ok-pairs.ensures.candidates
     (make_told c.args.name.now c.placed.result) (c.placed.ensures.is c.args.name.now)
 
 pub returns-clause-leg : goal.returns-clause-leg
@@ -50,5 +50,5 @@ returns-clause-leg c =
     (ap (λ (s : Setup). s.network) c.setup.view_is) c.in-Ok.ensures.known)
     (sym c.is_moving.ensures ∙ c.if-is_moving.false) c.in-Ok.fibre c.in_ok-pairs.pairs
     (subst (λ (net : Network). c.in-Ok.fibre ≡ option_and_then (fibre_of net) c.args.avoid.now)
-    (ap (λ (s : Setup). s.network) c.setup.view_is) c.in-Ok.ensures.number) c.in_ok-pairs.ensures)
+    (ap (λ (s : Setup). s.network) c.setup.view_is) c.in-Ok.ensures.number) c.in_ok-pairs.ensures.candidates)
     c.placed.ensures.leg

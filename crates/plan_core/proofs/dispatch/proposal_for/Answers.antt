@@ -13,5 +13,5 @@ returns-in-Admit-clause-is c =
 
 pub returns-in_ok-routes_between-in-Routes-clause-is : goal.returns-in_ok-routes_between-in-Routes-clause-is
 returns-in_ok-routes_between-in-Routes-clause-is c =
-    ap outcome_told c.say-in-Routes.ensures.decision ∙ c.in_ok-routes_between-in-Routes.ensures
+    ap outcome_told c.say-in-Routes.ensures.decision ∙ c.in_ok-routes_between-in-Routes.ensures.is
     ∙ ap (step.outcome_of c.args.setup.now c.args.services.now.list) (sym (ap told c.in-Routes.is))

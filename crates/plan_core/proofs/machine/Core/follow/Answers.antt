@@ -11,10 +11,13 @@ use Rattle.plan_core.proofs.WaitingLaws.{followed-IsKept, needs-nothing, still-I
 use Rattle.plan_core.proofs.machine.Core.follow.Goals as goal
 
 pub invariant_of-self : goal.invariant_of-self
-invariant_of-self c = still-IsKept c.self.inside.setup c.self.inside.live.services.list
-    c.make_room.new.self.services.list c.self.inside.live.services.spare c.make_room.new.self.services.spare
-    c.self.inside.prepared c.self.inside.awaited.event c.self.invariant c.make_room.ensures.list
-    c.make_room.ensures.kept
+invariant_of-self c = (
+  c.self.invariant.0,
+  still-IsKept c.self.inside.setup c.self.inside.live.services.list
+      c.make_room.new.self.services.list c.self.inside.live.services.spare c.make_room.new.self.services.spare
+      c.self.inside.prepared c.self.inside.awaited.event c.self.invariant.1 c.make_room.ensures.list
+      c.make_room.ensures.kept,
+)
 
 pub returns-in_err-make_room-clause-no_memory : goal.returns-in_err-make_room-clause-no_memory
 returns-in_err-make_room-clause-no_memory c = λ brings _.
@@ -29,7 +32,7 @@ change-requires c = (
   c.self.inside.setup,
   followed-IsKept c.self.inside.setup c.self.inside.live.services.list c.make_room.new.self.services.list
       c.self.inside.live.services.spare c.make_room.new.self.services.spare c.self.inside.prepared
-      c.in-Some.prepared c.self.inside.awaited.event c.args.e.now c.self.invariant c.make_room.ensures.list c.requires
+      c.in-Some.prepared c.self.inside.awaited.event c.args.e.now c.self.invariant.1 c.make_room.ensures.list c.requires
       (sym c.in-Some.is ∙ c.in_ok-needed.ensures.is) c.in_ok-make_room.ensures.room,
 )
 
@@ -37,17 +40,19 @@ pub invariant_of-self-2 : goal.invariant_of-self-2
 invariant_of-self-2 c =
     let kept = followed-IsKept c.self.inside.setup c.self.inside.live.services.list c.make_room.new.self.services.list
     c.self.inside.live.services.spare c.make_room.new.self.services.spare c.self.inside.prepared
-    c.in-Some.prepared c.self.inside.awaited.event c.args.e.now c.self.invariant c.make_room.ensures.list c.requires
-    (sym c.in-Some.is ∙ c.in_ok-needed.ensures.is) c.in_ok-make_room.ensures.room in
-    applied-IsKept c.self.inside.setup c.make_room.new.self.services.list c.change.new.self.services.list
-    c.make_room.new.self.services.spare c.change.new.self.services.spare c.in-Some.prepared prepared.Nothing
-    c.none-self-inside.result.event c.args.e.now kept c.change.ensures c.none-self-inside.ensures
+    c.in-Some.prepared c.self.inside.awaited.event c.args.e.now c.self.invariant.1 c.make_room.ensures.list c.requires
+    (sym c.in-Some.is ∙ c.in_ok-needed.ensures.is) c.in_ok-make_room.ensures.room in (
+      c.self.invariant.0,
+      applied-IsKept c.self.inside.setup c.make_room.new.self.services.list c.change.new.self.services.list
+          c.make_room.new.self.services.spare c.change.new.self.services.spare c.in-Some.prepared prepared.Nothing
+          c.none-self-inside.result.event c.args.e.now kept c.change.ensures c.none-self-inside.ensures,
+    )
 
 pub returns-clause-state : goal.returns-clause-state
 returns-clause-state c =
     let kept = followed-IsKept c.self.inside.setup c.self.inside.live.services.list c.make_room.new.self.services.list
     c.self.inside.live.services.spare c.make_room.new.self.services.spare c.self.inside.prepared
-    c.in-Some.prepared c.self.inside.awaited.event c.args.e.now c.self.invariant c.make_room.ensures.list c.requires
+    c.in-Some.prepared c.self.inside.awaited.event c.args.e.now c.self.invariant.1 c.make_room.ensures.list c.requires
     (sym c.in-Some.is ∙ c.in_ok-needed.ensures.is) c.in_ok-make_room.ensures.room in
     made-applied c.self.inside.setup c.make_room.new.self.services.list c.change.new.self.services.list
     c.make_room.new.self.services.spare c.in-Some.prepared c.args.e.now kept c.change.ensures

@@ -8,13 +8,11 @@ use Rattle.plan_core.specs.declared.decision.Decision.{Decision}
 use Rattle.journal_record.specs.Told.{event_told}
 use Rattle.plan_core.specs.Told.{answer_of, event_of, CanBeTold}
 use Rattle.plan_core.specs.Seen.{CoreSeen}
-use Rattle.plan_core.specs.Waiting.{CanBeHeld}
 use Rattle.plan_core.proofs.WaitingLaws.{of-held}
 use Rattle.plan_core.proofs.machine.Core.step.Goals as goal
 
 pub hold-requires : goal.hold-requires
-hold-requires c =
-    subst (λ (v : CoreSeen). CanBeHeld v.setup v.state c.in_ok-proposal.proposal) c.self.view_is c.in_ok-proposal.ensures.proposed.held
+hold-requires c = c.in_ok-proposal.ensures.proposed.held
 
 pub returns-clause-answer : goal.returns-clause-answer
 returns-clause-answer c =
