@@ -1,7 +1,8 @@
 #!/usr/bin/env bash
 # Answers generated streams by `eonplan dry` and by the plain planner, compares the replies, and times eonplan.
 #
-# usage: compare.sh [LINES] [SEED]     admissions, placements, releases, listings and drills on a network of fourteen nodes
+# usage: compare.sh [LINES] [SEED]     admissions, placements, releases, moves, plans, listings and drills on a network of fourteen
+#                                      nodes
 set -eu
 lines=${1:-1000}
 seed=${2:-1}
@@ -27,10 +28,15 @@ for i in range(1, lines + 1):
     elif kind < 70:
         fibre, a, b = draw.choice(fibres)
         print(f"place s{i} {a} {b} {rate} bare {fibre} {draw.randint(-300, 490)}")
-    elif kind < 90:
+    elif kind < 80:
         print(f"release s{draw.randint(1, i)}")
+    elif kind < 92:
+        name = f"s{draw.randint(1, i)}"
+        print(draw.choice([f"push {name} {draw.randint(-300, 490)}", f"make {name}", f"finish {name}", f"back {name}", f"refit {name}"]))
     elif kind < 94:
         print(f"show s{draw.randint(1, i)}")
+    elif kind < 95:
+        print("compact")
     elif kind < 97:
         print(f"map {draw.choice(fibres)[0]}")
     elif kind < 98:
@@ -47,7 +53,7 @@ PY
 start=$(date +%s.%N)
 "$top/eonplan" dry "$work/net" "$work/commands" >"$work/out"
 end=$(date +%s.%N)
-python3 "$top/bench/plain.py" "$work/net" "$work/commands" >"$work/expected"
+python3 "$top/bench/plain.py" dry "$work/net" "$work/commands" >"$work/expected"
 cmp "$work/out" "$work/expected" && echo "the replies to $lines generated lines are those of the plain planner"
 awk '{ print ($1 == "ok" ? "ok " $2 : $1) }' "$work/out" | sort | uniq -c | sort -rn | head -8
 awk -v a="$start" -v b="$end" -v n="$lines" 'BEGIN { printf "eonplan dry: %.2f s, %.0f lines/s\n", b - a, n / (b - a) }'

@@ -13,19 +13,7 @@ work=$(mktemp -d)
 trap 'rm -rf "$work"' EXIT
 cp "$top/bench/n.net" "$work/fourteen.net"
 cp "$top/crates/worked_rows/data/networks/grid.net" "$work/grid.net"
-python3 - "$seed" >"$work/limits.net" <<'PY'
-import random, sys
-
-draw = random.Random(int(sys.argv[1]))
-nodes = [f"n{i:02d}" for i in range(64)]
-ends = [(nodes[i], nodes[draw.randrange(i)]) for i in range(1, 63)]  # a tree; the last node stands apart
-while len(ends) < 128:
-    ends.append(tuple(draw.sample(nodes[:63], 2)))
-print("net 1\nband -512 511\nguard 0\nk 16\nservices 4096\njournal 4096\nformat q16 100000 50")
-print("\n".join(f"node {n}" for n in nodes))
-print("\n".join(f"fibre f{i:03d} {a} {b} {draw.randint(10, 500)}" for i, (a, b) in enumerate(ends)))
-print("end")
-PY
+python3 "$top/bench/limits.py" "$seed" >"$work/limits.net"
 # The first call builds the program, where that is needed.
 "$top/eonplan" dry "$work/grid.net" /dev/null >/dev/null
 cat >"$work/compare.py" <<'PY'
