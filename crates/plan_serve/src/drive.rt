@@ -52,13 +52,7 @@ fn tell_summary<K: Sink>(alloc: Global, core: &Core, tally: &Tally, out: &mut K)
 }
 
 // Drives a load over this network.
-fn drive_over<K: Sink>(
-    alloc: Global,
-    setup: NetSetup,
-    seed: u64,
-    count: u32,
-    out: &mut K,
-) -> Status
+fn drive_over<K: Sink>(alloc: Global, setup: NetSetup, seed: u64, count: u32, out: &mut K) -> Status
     requires { IsTrue (is_setup setup) }
     ensures told { DriveOver setup seed count (output (K.given out.old) (K.standing out.old)) (output (K.given out.new) (K.standing out.new)) result }
     ensures room { (K.standing out.new).room ≡ (K.standing out.old).room }

@@ -25,7 +25,7 @@ pub loop-i-preserved : goal.loop-i-preserved
 loop-i-preserved c =
     let here = c.loop-i.core.setup in
     let line = c.bytes.ensures.value ∙ c.drive_line.ensures.line
-        ∙ ap (λ (s : Setup). command_text (drive_command s c.loop-i.before c.loop-i.word (c.loop-i.i + 1))) c.setup.ensures.setup in (
+    ∙ ap (λ (s : Setup). command_text (drive_command s c.loop-i.before c.loop-i.word (c.loop-i.i + 1))) c.setup.ensures.setup in (
       c.reply_to-reply.ensures.setup ∙ c.loop-i.invariant.0,
       driven_then here c.reply_to-reply.new.core.setup c.args.seed c.loop-i.i c.loop-i.before c.loop-i.word
           c.loop-i.core.state c.reply_to-reply.new.core.state c.loop-i.tally c.with_reply-tally.result c.reply_to-reply.result

@@ -15,8 +15,8 @@ returns-in-Err-clause-ends g c =
     let old = c.args.shelf.now in
     let new = c.read_network.new.shelf in
     inl (network_said c.args.net.now
-        (outside (g.H.Shelf.files old) (g.H.Shelf.opened old) (g.H.Shelf.left old) (g.H.Shelf.faults old)
-        (g.K.Sink.given c.args.out.now) (g.K.Sink.standing c.args.out.now))
-        (outside (g.H.Shelf.files new) (g.H.Shelf.opened new) (g.H.Shelf.left new) (g.H.Shelf.faults new)
-        (g.K.Sink.given c.refuse.new.out) (g.K.Sink.standing c.refuse.new.out)) c.in-Err.status c.refuse.result
-        c.refuse.ensures.status c.in-Err.ensures.opened c.in-Err.ensures.network c.refuse.ensures.given)
+    (outside (g.H.Shelf.files old) (g.H.Shelf.opened old) (g.H.Shelf.left old) (g.H.Shelf.faults old)
+    (g.K.Sink.given c.args.out.now) (g.K.Sink.standing c.args.out.now))
+    (outside (g.H.Shelf.files new) (g.H.Shelf.opened new) (g.H.Shelf.left new) (g.H.Shelf.faults new)
+    (g.K.Sink.given c.refuse.new.out) (g.K.Sink.standing c.refuse.new.out)) c.in-Err.status c.refuse.result
+    c.refuse.ensures.status c.in-Err.ensures.opened c.in-Err.ensures.network c.refuse.ensures.given)
