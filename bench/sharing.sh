@@ -51,32 +51,49 @@ fn backup(alloc: Global, groups: u16, first: u16, many: u16, lo: i16, hi: i16) -
 }
 
 /// Adds a backup of one to eight fibres and four to thirty-two units.
-fn add(alloc: Global, backups: &mut Backups, i: u16) -> Result<(), AllocError> {
+fn add(alloc: Global, backups: &mut Backups, i: u16) -> Result<bool, AllocError> {
     let lo = -512 + (i.wrapping_mul(37) % 1000) as i16;
     let hi = lo + 4 + (i % 29) as i16;
-    if let Some(backup) = backup(alloc, backups.groups(), i.wrapping_mul(13), 1 + i % 8, lo, hi)? {
-        let _ = backups.add(&backup);
-    }
-    Ok(())
+    add_one(alloc, backups, i.wrapping_mul(13), 1 + i % 8, lo, hi)
 }
 
-fn time(rt: &HostRuntime, backups: &Backups, many: u16, calls: u64) -> io::Result<()> {
-    let Some(asked) = backup(rt.alloc(), backups.groups(), 0, many, 0, 7)? else {
-        return Ok(());
-    };
-    let fits = backups.fits(&asked);
+fn add_one(
+    alloc: Global,
+    backups: &mut Backups,
+    first: u16,
+    many: u16,
+    lo: i16,
+    hi: i16,
+) -> Result<bool, AllocError> {
+    match backup(alloc, backups.groups(), first, many, lo, hi)? {
+        Some(asked) => Ok(backups.add(&asked)),
+        None => Ok(false),
+    }
+}
+
+/// Prints how many calls of `fits` said the same, and the nanoseconds of all.
+fn time_fits(rt: &HostRuntime, backups: &Backups, asked: &Backup, calls: u64) -> io::Result<()>
+    requires { IsBelow backups.now.groups asked.now.risk }
+{
+    let fits = backups.fits(asked);
     let start = Instant::now(rt)?;
     let mut same: u64 = 0;
     for _ in 0..calls {
-        if backups.fits(&asked) == fits {
+        if backups.fits(asked) == fits {
             same = same.wrapping_add(1);
         }
     }
     let taken = start.elapsed(rt)?.as_nanos();
-    print!(rt; "{many} {} {same} {taken} ", fits == Some(true))?;
+    print!(rt; "{} {same} {taken} ", fits == Some(true))
+}
+
+/// So it does of `lowest`.
+fn time_lowest(rt: &HostRuntime, backups: &Backups, asked: &Backup, calls: u64) -> io::Result<()>
+    requires { IsBelow backups.now.groups asked.now.risk }
+{
     let found = backups.lowest(&asked.risk, asked.fibres.as_slice(), 4);
     let start = Instant::now(rt)?;
-    same = 0;
+    let mut same: u64 = 0;
     for _ in 0..calls {
         if backups.lowest(&asked.risk, asked.fibres.as_slice(), 4) == found {
             same = same.wrapping_add(1);
@@ -86,6 +103,20 @@ fn time(rt: &HostRuntime, backups: &Backups, many: u16, calls: u64) -> io::Resul
     match found {
         Some(n) => println!(rt; "{n} {same} {taken}"),
         None => println!(rt; "none {same} {taken}"),
+    }
+}
+
+fn time_both(rt: &HostRuntime, backups: &Backups, asked: &Backup, calls: u64) -> io::Result<()>
+    requires { IsBelow backups.now.groups asked.now.risk }
+{
+    time_fits(rt, backups, asked, calls)?;
+    time_lowest(rt, backups, asked, calls)
+}
+
+fn time(rt: &HostRuntime, alloc: Global, backups: &Backups, many: u16, calls: u64) -> io::Result<()> {
+    match backup(alloc, backups.groups(), 0, many, 0, 7)? {
+        Some(asked) => time_both(rt, backups, &asked, calls),
+        None => Ok(()),
     }
 }
 
@@ -102,10 +133,11 @@ fn main(rt: HostRuntime) -> io::Result<()> {
     };
     let mut backups = Backups::new(rt.alloc(), &setup.net, setup.band)?;
     for i in 0..added {
-        add(rt.alloc(), &mut backups, i)?;
+        let _ = add(rt.alloc(), &mut backups, i)?;
     }
     for many in [1, 6, 63] {
-        time(&rt, &backups, many, calls)?;
+        print!(rt; "{many} ")?;
+        time(&rt, rt.alloc(), &backups, many, calls)?;
     }
     Ok(())
 }
