@@ -12,7 +12,7 @@ Counts before now (Err _) = now ≡ counted before
 
 -- What a sink says of itself, of which calls change the count alone. `room` says for how many bytes in all it is sure to
 -- have room: none of its calls fails before so many were given. Where it is not sure, `room` is None. `through` are the
--- sinks below it, by the references through which it gives to them.
+-- references that it has: to the sinks below it, and to the bytes that it holds back.
 pub record Standing : Type 0 where
   pub faults : ℕ
   pub room : Option ℕ

@@ -3,9 +3,9 @@ use Rattle.std.specs.Prelude.{◌≡◌, ℕ, ◌<◌, List, [], ◌∷◌, ◌+
 use Rattle.std.specs.Io.KnownBytes.{Appends}
 use Rattle.eon_outside.specs.Faults.{Standing}
 
--- the standing of a sink that gives to another one, through this reference
-abbrev pub standing_over : ℕ → Standing → Standing
-standing_over reference below = record below { through = reference ∷ below.through }
+-- the standing of a sink that gives to another one, through this reference, and holds bytes back behind that one
+abbrev pub standing_over : ℕ → ℕ → Standing → Standing
+standing_over reference held below = record below { through = reference ∷ held ∷ below.through }
 
 -- What was given in all: to the sink below, and held back for it. It is told where the sink below tells what it was
 -- given, and that begins with what it had at the start.

@@ -21,9 +21,9 @@ sure_with (Some room) faults (Some start) (Some bytes) held h =
     one false l = tt
 
 -- what is held makes a sink no less sure
-pub sure_over : (reference : ℕ) (below : Standing) (start given : Option (List ℕ)) (held : List ℕ)
-    → IsSure below given → IsSure (standing_over reference below) (given_since start given held)
-sure_over reference below start given held h = sure_with below.room below.faults start given held h
+pub sure_over : (reference place : ℕ) (below : Standing) (start given : Option (List ℕ)) (held : List ℕ)
+    → IsSure below given → IsSure (standing_over reference place below) (given_since start given held)
+sure_over reference place below start given held h = sure_with below.room below.faults start given held h
 
 abbrev Sure : ℕ → List ℕ → Option ℕ → Type 0
 Sure faults given room = IfSome room (λ room. 0 < faults → room ≤ length given)

@@ -34,6 +34,7 @@ impl<'a, K: Sink, S: Start> Buffered<'a, K, S> {
     /// Holds these bytes back for this sink, and as many as they have room for.
     pub fn new(out: &'a mut K, held: &'a mut Vec<u8>) -> Buffered<'a, K, S>
         ensures sink { result.out.ghost_name ≡ out.entry.ghost_name }
+        ensures place { result.held.ghost_name ≡ held.entry.ghost_name }
         ensures same { result.out.now ≡ out.old }
         ensures held { result.held.now.items ≡ held.old.items }
     {
@@ -47,7 +48,7 @@ impl<'a, K: Sink, S: Start> Buffered<'a, K, S> {
     /// Gives all that is held to the sink below. What it did not take stays held after a failure.
     pub fn flush(&mut self) -> Result<(), Failed>
         ensures bytes { Flushes (K.given self.old.out.now) (K.given self.new.out.now) self.old.held.now.items self.new.held.now.items result }
-        ensures stands { Stands (standing_over self.old.out.ghost_name (K.standing self.old.out.now)) (standing_over self.new.out.ghost_name (K.standing self.new.out.now)) result }
+        ensures stands { Stands (standing_over self.old.out.ghost_name self.old.held.ghost_name (K.standing self.old.out.now)) (standing_over self.new.out.ghost_name self.new.held.ghost_name (K.standing self.new.out.now)) result }
     {
         match write_front(self.out, self.held.as_slice()) {
             Ok(()) => {
@@ -66,7 +67,7 @@ impl<'a, K: Sink, S: Start> Buffered<'a, K, S> {
         requires { self.old.held.now.items ≡ [] }
         ensures bound { TakesSome result piece.now }
         ensures bytes { WriteAppends (given_since S.bytes (K.given self.old.out.now) self.old.held.now.items) (given_since S.bytes (K.given self.new.out.now) self.new.held.now.items) result piece.now }
-        ensures stands { Stands (standing_over self.old.out.ghost_name (K.standing self.old.out.now)) (standing_over self.new.out.ghost_name (K.standing self.new.out.now)) result }
+        ensures stands { Stands (standing_over self.old.out.ghost_name self.old.held.ghost_name (K.standing self.old.out.now)) (standing_over self.new.out.ghost_name self.new.held.ghost_name (K.standing self.new.out.now)) result }
     {
         if hold(self.held, piece) {
             return Ok(piece.len());
@@ -78,7 +79,7 @@ impl<'a, K: Sink, S: Start> Buffered<'a, K, S> {
 impl<'a, K: Sink, S: Start> Sink for Buffered<'a, K, S> {
     ghost given = { λ b. given_since S.bytes (K.given b.out.now) b.held.now.items };
 
-    ghost standing = { λ b. standing_over b.out.ghost_name (K.standing b.out.now) };
+    ghost standing = { λ b. standing_over b.out.ghost_name b.held.ghost_name (K.standing b.out.now) };
 
     fn write(&mut self, piece: &[u8]) -> Result<usize, Failed> {
         if hold(self.held, piece) {
@@ -90,7 +91,7 @@ impl<'a, K: Sink, S: Start> Sink for Buffered<'a, K, S> {
         }
     }
 
-    ghost sure = { λ b. sure_over b.out.ghost_name (K.standing b.out.now) S.bytes (K.given b.out.now) b.held.now.items (K.sure b.out.now) };
+    ghost sure = { λ b. sure_over b.out.ghost_name b.held.ghost_name (K.standing b.out.now) S.bytes (K.given b.out.now) b.held.now.items (K.sure b.out.now) };
 }
 
 // Appends the piece where there is room, and says whether there was. There is for a piece that is empty.

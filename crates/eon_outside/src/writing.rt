@@ -10,7 +10,7 @@ use crate::reading::Failed;
 ///
 /// Contracts see two things of it. `given` are all bytes that it took, `None` where the object does not tell.
 /// `standing` has its count of faults: each call that fails raises it by one, up to 2^64 - 1. What else the standing
-/// has stays as it is: for how many bytes in all the object is sure to have room, and the sinks below it.
+/// has stays as it is: for how many bytes in all the object is sure to have room, and the references that it has.
 pub trait Sink {
     ghost given: { Self → Option (List ℕ) };
 

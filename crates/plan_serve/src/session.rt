@@ -112,7 +112,7 @@ impl Session {
         ensures none_held { OnOk result (out.new.held.now.items ≡ []) }
         ensures fed { (start : Situation) (before : Option (List ℕ)) (bytes : List ℕ) → Goes self.old.core.setup start before (situation self.old.core.state None) self.old.begun.items bytes (given_since S.bytes (K.given out.old.out.now) out.old.held.now.items)
             → Feeds self.old.core.setup start before (situation self.new.core.state None) self.new.begun.items (bytes ++ piece.now) out.new.held.now.items (given_since S.bytes (K.given out.new.out.now) out.new.held.now.items) result }
-        ensures stands { Stands (standing_over out.old.out.ghost_name (K.standing out.old.out.now)) (standing_over out.new.out.ghost_name (K.standing out.new.out.now)) result }
+        ensures stands { Stands (standing_over out.old.out.ghost_name out.old.held.ghost_name (K.standing out.old.out.now)) (standing_over out.new.out.ghost_name out.new.held.ghost_name (K.standing out.new.out.now)) result }
     {
         match self.answer_lines(piece, out) {
             Ok(flow) => match out.flush() {
@@ -129,7 +129,7 @@ impl Session {
         ensures setup { self.new.core.setup ≡ self.old.core.setup }
         ensures ended { (start : Situation) (before : Option (List ℕ)) (bytes : List ℕ) → Goes self.old.core.setup start before (situation self.old.core.state None) self.old.begun.items bytes (given_since S.bytes (K.given out.old.out.now) out.old.held.now.items)
             → FinishesAt self.old.core.setup start before (situation self.new.core.state None) self.old.begun.items bytes out.new.held.now.items (given_since S.bytes (K.given out.new.out.now) out.new.held.now.items) result }
-        ensures stands { StandsAt result (standing_over out.old.out.ghost_name (K.standing out.old.out.now)) (standing_over out.new.out.ghost_name (K.standing out.new.out.now)) }
+        ensures stands { StandsAt result (standing_over out.old.out.ghost_name out.old.held.ghost_name (K.standing out.old.out.now)) (standing_over out.new.out.ghost_name out.new.held.ghost_name (K.standing out.new.out.now)) }
         ensures none_held { result ≡ Status.Done → out.new.held.now.items ≡ [] }
         ensures no_read { result ≢ Status.ReadFault }
     {

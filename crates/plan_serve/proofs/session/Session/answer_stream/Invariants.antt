@@ -19,8 +19,8 @@ invariant-loop-count g l = record {
   files : g.H.Shelf.files l.shelf ≡ g.H.Shelf.files l.initial.shelf;
   opened : g.H.Shelf.opened l.shelf ≡ g.H.Shelf.opened l.initial.shelf;
   reads : g.H.Shelf.faults l.shelf ≡ g.H.Shelf.faults l.initial.shelf;
-  stands : standing_over l.out.out.ghost_name (g.K.Sink.standing l.out.out.now)
-      ≡ standing_over l.initial.out.out.ghost_name (g.K.Sink.standing l.initial.out.out.now);
+  stands : standing_over l.out.out.ghost_name l.out.held.ghost_name (g.K.Sink.standing l.out.out.now)
+      ≡ standing_over l.initial.out.out.ghost_name l.initial.out.held.ghost_name (g.K.Sink.standing l.initial.out.out.now);
   calm : IsTrue (g.H.Shelf.calm l.initial.shelf) → IsTrue (g.H.Shelf.calm l.shelf);
 }
 
