@@ -1,10 +1,12 @@
 -- What a machine that answers lines does with one line.
-use Rattle.std.specs.Prelude.{◌≡◌, ◌⊎◌, ℕ, ◌+◌, ⊤, IsTrue, IfSome, MatchBool, Bool, true, false, List, [], ◌∷◌, ◌++◌, Option, None, Some, Result, Ok, Err}
+use Rattle.std.specs.Prelude.{◌≡◌, ◌⊎◌, ℕ, ◌+◌, ◌<◌, ⊤, IsTrue, IfSome, MatchBool, Bool, true, false, List, [], ◌∷◌, ◌++◌, length, take, Option, None, Some, Result, Ok, Err}
 use Rattle.std.specs.Io.KnownBytes.{Appends}
 use Rattle.eon_model.specs.Lists.{has_number}
 use Rattle.eon_model.specs.LineStream.{Machine, is_quit, IsPrefix}
+use Rattle.eon_model.specs.LawsOfMachines.{MayEndEarly}
 use Rattle.eon_outside.specs.Faults.{Standing, with_fault}
 use Rattle.eon_outside.specs.Writing.{AppendsPart}
+use Rattle.line_session.specs.Lines.{most_kept}
 use Rattle.line_session.specs.declared.answerer.Flow.{Flow}
 use Rattle.line_session.specs.declared.answerer.Flow.TheVariants.{On, Ended}
 use Rattle.line_session.specs.declared.answerer.Stopped.{Stopped}
@@ -16,6 +18,19 @@ pub record Answering (S A : Type 0) : Type 1 where
   pub machine : Machine S A
   pub MayMiss : List ℕ → Type 0
   pub is_change : A → Bool
+
+-- What is asked of the way in which lines are answered, at a place where the machine stands well. Where it stands well it answers every
+-- line that is not missed, and stands well behind any answer; a beginning of the output of a run is one that ends early. A line of more
+-- than 4,096 bytes is not missed, and has the answer of its first 4,097.
+pub record IsLawful {S A : Type 0} (by : Answering S A) (Well : S → Type 0) (start : S) : Type 0 where
+  pub starts : Well start
+  pub some : (s : S) (line : List ℕ) → Well s → (a : A) × by.machine.IsAnswer s line false a
+  pub stays : (s : S) (line : List ℕ) (is_missed : Bool) (a : A) → Well s → by.machine.IsAnswer s line is_missed a
+      → Well (by.machine.after s a)
+  pub early : MayEndEarly by.machine Well
+  pub long : (s : S) (line : List ℕ) (is_missed : Bool) (a : A) → 4096 < length line
+      → by.machine.IsAnswer s (take most_kept line) is_missed a
+      → (is_missed ≡ false) × by.machine.IsAnswer s line is_missed a
 
 -- each line with one of these numbers, the first of which has this one, may be missed
 abbrev pub MissesOnlyWhere : (List ℕ → Type 0) → List ℕ → ℕ → List (List ℕ) → Type 0

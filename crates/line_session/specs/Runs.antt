@@ -46,7 +46,8 @@ pub record GoesOnBehind {S A : Type 0} (by : Answering S A) (start : S) (bytes p
   pub run : Replies by.machine start bytes missed (part ++ rest)
 
 -- The first lines of a stream have these answers. All of them, or all but the last, were carried out, and `doubt` is the last
--- one where it was carried out or not. A front of their text was given, and it holds all that is acknowledged.
+-- one where it was carried out or not. A front of their text was given, and not all of it where the bytes given are told; it holds all
+-- that is acknowledged.
 pub record Carries {S A : Type 0} (by : Answering S A) (Went : List A → Option A → Type 0) (start : S) (bytes : List ℕ)
     (before now : Option (List ℕ)) (doubt : Option A) : Type 0 where
   pub missed : List ℕ
@@ -64,6 +65,6 @@ pub record Carries {S A : Type 0} (by : Answering S A) (Went : List A → Option
   pub front : List ℕ
   pub left : List ℕ
   pub text : front ++ left ≡ each_text by.machine start answers
-  pub more : left ≢ []
+  pub more : IfSome before (λ _. left ≢ [])
   pub given : Appends before now front
   pub acknowledged : IsAcknowledged by start (done ++ option_to_list doubt) before now

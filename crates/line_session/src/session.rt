@@ -4,7 +4,7 @@ ghost use Rattle.line_session.specs.Lines.{IsLeft, most_kept, most_read};
 ghost use Rattle.line_session.specs.Ends.{AnswersStream, CountsReads, StandsAt};
 
 use crate::answerer::Answerer;
-use eon_outside::{Buffered, Shelf, Sink, Start};
+use eon_outside::{Shelf, Sink};
 use std::alloc::{AllocError, Global};
 
 /// How many bytes are kept of a line that has begun: one more than a line has, so that what is longer is known to be too long.
@@ -43,29 +43,28 @@ impl LineSession {
     }
 
     /// Answers each line that is left of the open file, up to `quit`. The buffer holds what is read at a time. Replies are held
-    /// back while there is room for them, and given at the end of each piece.
-    pub fn answer_stream<H: Shelf, K: Sink, S: Start, M: Answerer>(
+    /// back in `held` while there is room for them, and given at the end of each piece.
+    pub fn answer_stream<H: Shelf, K: Sink, M: Answerer>(
         &mut self,
         answerer: &mut M,
         shelf: &mut H,
         buffer: &mut [u8],
-        out: &mut Buffered<'_, K, S>,
+        out: &mut K,
+        held: &mut Vec<u8>,
     ) -> Outcome
         requires some_room { 0 < length buffer.old }
         requires few { length buffer.old ≤ most_read }
         requires none_begun { self.old.begun.items ≡ [] }
-        requires none_held { out.old.held.now.items ≡ [] }
-        requires from { S.bytes ≡ K.given out.old.out.now }
+        requires none_held { held.old.items ≡ [] }
         requires ready { M.ready answerer.old }
         requires stub { ⊥ }
         ensures setting { M.setting answerer.new ≡ M.setting answerer.old }
-        ensures sink { out.new.out.ghost_name ≡ out.old.out.ghost_name }
         ensures answered { AnswersStream (M.by (M.setting answerer.old)) (M.went answerer.old answerer.new) (IsLeft (H.left shelf.old)) (M.place answerer.old)
-            (H.left shelf.new) (K.given out.old.out.now) (K.given out.new.out.now) result }
+            (H.left shelf.new) (K.given out.old) (K.given out.new) result }
         ensures files { H.files shelf.new ≡ H.files shelf.old }
         ensures opened { H.opened shelf.new ≡ H.opened shelf.old }
         ensures reads { CountsReads result (H.faults shelf.old) (H.faults shelf.new) }
-        ensures stands { StandsAt result (K.standing out.old.out.now) (K.standing out.new.out.now) }
+        ensures stands { StandsAt result (K.standing out.old) (K.standing out.new) }
         ensures calm { IsTrue (H.calm shelf.old) → result ≢ Outcome.ReadFault }
     {
         unreachable!()
