@@ -9,3 +9,5 @@ pub mod ExtremesAre
 pub mod ClearFacts
 pub mod ClearAre
 pub mod TargetsAre
+pub mod ShiftLaws
+pub mod StuckLaws

@@ -29,7 +29,7 @@ slot_grid s h =
     (leb-true 1 s.m b.0, (units_facts (units_of s) a.1).1)
 
 module _ (block : Path) (grid : OnGrid (units_of block.slot)) where
-  below_is : (a m : ℕ) → nat_le (a + (m + m)) (begin_of Floor (units_of block.slot))
+  pub below_is : (a m : ℕ) → nat_le (a + (m + m)) (begin_of Floor (units_of block.slot))
       ≡ int_lt (units_of (record { n = centre_from Floor m a; m = m })).hi (units_of block.slot).lo
   below_is a m = same_test _ _
       (λ h. let l = leb-true (a + (m + m)) (begin_of Floor (units_of block.slot)) h in let g = grid.low in
@@ -37,7 +37,7 @@ module _ (block : Path) (grid : OnGrid (units_of block.slot)) where
       (λ h. let l = of-int_lt (units_of (record { n = centre_from Floor m a; m = m })).hi (units_of block.slot).lo h in
       let g = grid.low in le-leb (a + (m + m)) (begin_of Floor (units_of block.slot)) (omega (arith, ints)))
 
-  above_is : (a m : ℕ) → nat_le (a + (m + m)) (begin_of Ceiling (units_of block.slot))
+  pub above_is : (a m : ℕ) → nat_le (a + (m + m)) (begin_of Ceiling (units_of block.slot))
       ≡ int_lt (units_of block.slot).hi (units_of (record { n = centre_from Ceiling m a; m = m })).lo
   above_is a m = same_test _ _
       (λ h. let l = leb-true (a + (m + m)) (begin_of Ceiling (units_of block.slot)) h in let g = grid.high in

@@ -3,3 +3,5 @@ pub mod Heights
 pub mod Sweeps
 pub mod Sides
 pub mod Targets
+pub mod Shifts
+pub mod Rooms

@@ -8,7 +8,7 @@ use leg_state::holding::share_fibre;
 use leg_state::{Path, Service};
 
 // Whether a path that begins here, from this side, ends before the block on a common fibre.
-fn ends_before(from: Side, at: u16, path: &Path, block: &Path) -> bool
+pub(crate) fn ends_before(from: Side, at: u16, path: &Path, block: &Path) -> bool
     requires { at ≤ 8192 }
     ensures { result ≡ ends_so from block.now path.now at }
 {

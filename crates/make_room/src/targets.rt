@@ -5,6 +5,7 @@ ghost use Rattle.eon_model.specs.Grid.{units_of};
 ghost use Rattle.make_room.specs.Sweeps.{IsEach, BeginsClear, BeginsWithin, SettlesClear, clear_begin, bound_of};
 ghost use Rattle.make_room.specs.Sides.{beyond_so, goes_so};
 ghost use Rattle.make_room.specs.Targets.{bounds_from, TellsTargets};
+ghost use Rattle.make_room.specs.Rooms.{AreAllHeights};
 
 use crate::heights::{GRID, Side, end};
 use crate::settle::settled;
@@ -146,7 +147,8 @@ pub fn room_targets(
     band: &Band,
     block: &Path,
 ) -> Result<Targets, AllocError>
-    ensures { IfOk result (TellsTargets band.now services.now.list block.now) }
+    ensures targets { IfOk result (TellsTargets band.now services.now.list block.now) }
+    ensures heights { IfOk result (AreAllHeights services.now.list) }
 {
     // Read for what a slot keeps.
     let _ = block.slot.m();

@@ -7,8 +7,8 @@ use Rattle.make_room.specs.Sides.{goes_so}
 use Rattle.make_room.proofs.TargetsAre.{lows_are, highs_are, downs_are, ups_are}
 use Rattle.make_room.proofs.targets.room_targets.Goals as goal
 
-pub returns : goal.returns
-returns c setup of_band banded legal rest =
+pub returns-clause-targets : goal.returns-clause-targets
+returns-clause-targets c setup of_band banded legal rest =
     let state = c.args.services.now.list in
     let block = c.args.block.now in
     let lts = c.in_ok-lows.lows.items in
@@ -33,4 +33,17 @@ returns c setup of_band banded legal rest =
           c.deref-4.ensures.value
           (subst (λ (xs : List ℕ). SettlesClear Floor state units (goes_so Floor block xs c.deref-4.result.now)
           c.deref-4.result.now uts) c.deref-3.ensures.value c.in_ok-ups.ensures));
+    }
+
+pub returns-clause-heights : goal.returns-clause-heights
+returns-clause-heights c =
+    let lows = c.in_ok-lows.ensures in
+    let highs = c.in_ok-highs.ensures in
+    let downs = c.in_ok-downs.ensures in
+    let ups = c.in_ok-ups.ensures in
+    record {
+      lows = record { long = lows.settles.places; small = lows.settles.small };
+      highs = record { long = highs.settles.places; small = highs.settles.small };
+      downs = record { long = downs.settles.places; small = downs.settles.small };
+      ups = record { long = ups.settles.places; small = ups.settles.small };
     }
