@@ -1,0 +1,12 @@
+pub mod LineLaws
+pub mod KeptLaws
+pub mod QuitLaws
+pub mod LongLines
+pub mod StreamLaws
+pub mod FrontLaws
+pub mod HeldLaws
+pub mod AcknowledgedLaws
+pub mod AnsweredLaws
+pub mod GoesLaws
+pub mod FeedLaws
+pub mod EndLaws
