@@ -2,16 +2,14 @@
 use Rattle.std.proofs.Common.{◌≡◌, refl, sym, ◌∙◌, ap, subst, ℕ, ◌+◌, ◌≤◌, Bool, true, false, cond, List, [], ◌∷◌, ◌++◌, append_assoc, Option, None, Some, arith}
 use Rattle.std.specs.Prelude.{IsTrue, count_by}
 use Rattle.std.specs.Io.KnownBytes.{Appends}
-use Rattle.std.proofs.lemmas.Bool.{both_ways}
 use Rattle.std.proofs.lemmas.List.{append-nil}
 use Rattle.std.proofs.lemmas.List.Sums.{sum_by-append}
 use Rattle.eon_model.specs.LineStream.{IsPrefix, after_each, each_text}
 use Rattle.eon_model.proofs.StreamRuns.{each_text-append}
-use Rattle.eon_outside.proofs.KnownBytesLaws.{appends_more}
 use Rattle.line_session.specs.Answering.{Answering, Took}
 use Rattle.line_session.specs.Runs.{IsAcknowledged, TookBehind}
 use Rattle.line_session.specs.Session.{Grows, AreGiven}
-use Rattle.line_session.proofs.HeldLaws.{grows_more, grows_none}
+use Rattle.line_session.proofs.HeldLaws.{grows_none}
 
 -- what was taken is still there
 took_on : (text more bytes o n : List ℕ) → (p : IsPrefix (bytes ++ text) o) → n ≡ o ++ more → IsPrefix (bytes ++ text) n

@@ -3,7 +3,6 @@ use Rattle.std.proofs.Common.{◌≡◌, ◌≢◌, refl, sym, ◌∙◌, ap, su
 use Rattle.std.specs.Prelude.{MatchBool, ⊤}
 use Rattle.std.specs.List.{list_all}
 use Rattle.std.specs.Io.KnownBytes.{Appends}
-use Rattle.std.proofs.lemmas.List.{append-nil}
 use Rattle.eon_model.specs.LineStream.{is_quit, lines_of, AnswersEach, after_each, each_text, Replies}
 use Rattle.eon_model.proofs.StreamRuns.{StaysWell, each-goes_on, each_text-append}
 use Rattle.line_session.specs.Answering.{Answering, IsLawful, MissesOnlyWhere}

@@ -1,5 +1,5 @@
 -- How the answers to a stream end.
-use Rattle.std.proofs.Common.{◌≡◌, ◌≢◌, refl, sym, ◌∙◌, ap, subst, inl, inr, ℕ, ◌+◌, ◌-◌, ◌≤◌, ◌<◌, true, false, List, [], ◌∷◌, ◌++◌, append_assoc, length, length-append, take, drop, Option, None, Some, Result, Ok, Err, arith}
+use Rattle.std.proofs.Common.{◌≡◌, ◌≢◌, refl, sym, ◌∙◌, ap, subst, inl, inr, ℕ, ◌+◌, ◌-◌, ◌≤◌, ◌<◌, false, List, [], ◌∷◌, ◌++◌, append_assoc, length, length-append, take, drop, Option, None, Some, Ok, Err, arith}
 use Rattle.std.specs.Prelude.{IsTrue, IfSome, ◌==◌}
 use Rattle.std.specs.Io.KnownBytes.{Appends, Consumes, Keeps, IsAtEnd, append_known}
 use Rattle.std.proofs.lemmas.List.{length-take-le, length-drop, take-take, take-append-drop}
@@ -8,9 +8,9 @@ use Rattle.eon_model.specs.Modes.{stream_limit}
 use Rattle.eon_model.specs.LineStream.{lines_of, each_text}
 use Rattle.line_session.specs.Answering.{Answering, IsLawful}
 use Rattle.line_session.specs.Lines.{IsLeft, whole_lines, quits_within, has_no_end, most_kept, most_read, Splits}
-use Rattle.line_session.specs.Runs.{Serves, GoesOnBehind, Carries}
+use Rattle.line_session.specs.Runs.{Serves, GoesOnBehind}
 use Rattle.line_session.specs.Ends.{AnswersAll, StopsAtLong, StopsReading, StopsEarly, AnswersStream, CountsReads}
-use Rattle.line_session.specs.Session.{Goes, Quits, Breaks, Feeds, FinishesAt, Grows, outcome_of}
+use Rattle.line_session.specs.Session.{Goes, Quits, Breaks, Feeds, FinishesAt, outcome_of}
 use Rattle.line_session.specs.declared.session.Outcome.{Outcome}
 use Rattle.line_session.specs.declared.session.Outcome.TheVariants.{Done, ReadFault, WriteFault, DiskFault, InputLong}
 use Rattle.line_session.specs.declared.answerer.Flow.{Flow}

@@ -1,23 +1,22 @@
 -- A piece of the stream whose replies are given to the sink below.
-use Rattle.std.proofs.Common.{◌≡◌, sym, ◌∙◌, ap, subst, zero, suc, inl, inr, ℕ, ◌<◌, ◌≤◌, ◌==◌, false, List, [], ◌∷◌, ◌++◌, length, drop, Option, None, Some, Result, Ok, Err, arith}
-use Rattle.std.specs.Option.{option_to_list}
+use Rattle.std.proofs.Common.{◌≡◌, sym, ◌∙◌, ap, subst, zero, suc, inl, inr, ℕ, ◌<◌, ◌==◌, false, List, [], ◌∷◌, ◌++◌, length, drop, Option, None, Some, Result, Ok, Err, arith}
 use Rattle.std.specs.Io.KnownBytes.{append_known}
 use Rattle.std.proofs.lemmas.List.{append-nil, length-drop}
 use Rattle.eon_model.specs.LineStream.{each_text}
 use Rattle.eon_outside.specs.Held.{Flushes}
-use Rattle.eon_outside.specs.Faults.{Standing, Stands}
+use Rattle.eon_outside.specs.Faults.{Standing}
 use Rattle.eon_outside.specs.declared.reading.Failed.{Failed}
 use Rattle.line_session.specs.Answering.{Answering, StandsBehind}
 use Rattle.line_session.specs.Ends.{StandsAt}
 use Rattle.line_session.specs.Runs.{IsAcknowledged}
-use Rattle.line_session.specs.Session.{Grows, AreAnswered, AreGiven, Goes, Quits, Breaks, Feeds, FinishesAt, outcome_of}
+use Rattle.line_session.specs.Session.{AreAnswered, AreGiven, Breaks, Feeds, FinishesAt, outcome_of}
 use Rattle.line_session.specs.Lines.{Splits}
 use Rattle.line_session.specs.declared.answerer.Flow.{Flow}
 use Rattle.line_session.specs.declared.answerer.Flow.TheVariants.{On, Ended}
 use Rattle.line_session.specs.declared.answerer.Stopped.{Stopped}
 use Rattle.line_session.specs.declared.answerer.Stopped.TheVariants.{Output, Disk}
 use Rattle.line_session.specs.declared.session.Outcome.{Outcome}
-use Rattle.line_session.specs.declared.session.Outcome.TheVariants.{Done, WriteFault, DiskFault}
+use Rattle.line_session.specs.declared.session.Outcome.TheVariants.{Done}
 use Rattle.line_session.proofs.AcknowledgedLaws.{acknowledged_on}
 use Rattle.line_session.proofs.HeldLaws.{grows_more, flush_keeps, flush_grows, appends_kept}
 

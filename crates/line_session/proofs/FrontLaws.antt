@@ -1,14 +1,13 @@
 -- A line that is told by its first bytes.
-use Rattle.std.proofs.Common.{◌≡◌, refl, sym, ◌∙◌, ap, subst, ◌⊎◌, inl, inr, ℕ, ◌≤◌, ◌<◌, Bool, true, false, List, [], ◌∷◌, ◌++◌, length, take, Option, None, Result, Ok, Err, arith}
-use Rattle.std.specs.Prelude.{MatchBool, ⊤, IsTrue, nat_le}
-use Rattle.std.specs.Io.KnownBytes.{Appends}
+use Rattle.std.proofs.Common.{◌≡◌, refl, sym, ◌∙◌, ap, subst, ℕ, ◌≤◌, ◌<◌, Bool, true, false, List, [], ◌++◌, length, take, Option, Result, Ok, Err, arith}
+use Rattle.std.specs.Prelude.{MatchBool, ⊤, nat_le}
 use Rattle.std.proofs.lemmas.Bool.{leb-true, le-leb, both_ways}
 use Rattle.std.proofs.lemmas.List.{take_all}
 use Rattle.line_session.specs.declared.answerer.Flow.{Flow}
 use Rattle.line_session.specs.declared.answerer.Flow.TheVariants.{On, Ended}
 use Rattle.line_session.specs.declared.answerer.Stopped.{Stopped}
 use Rattle.line_session.specs.declared.answerer.Stopped.TheVariants.{Output, Disk}
-use Rattle.line_session.specs.Answering.{Answering, AnswersLine, Comes, GoesOn, IsLawful, Took}
+use Rattle.line_session.specs.Answering.{Answering, AnswersLine, Comes, GoesOn, IsLawful}
 use Rattle.line_session.specs.Lines.{most_kept}
 use Rattle.line_session.proofs.KeptLaws.{take_front-append, empty_front}
 use Rattle.line_session.proofs.QuitLaws.{is_quit-front}

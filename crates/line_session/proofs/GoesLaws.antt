@@ -12,7 +12,7 @@ use Rattle.line_session.specs.declared.answerer.Flow.{Flow}
 use Rattle.line_session.specs.declared.answerer.Flow.TheVariants.{On, Ended}
 use Rattle.line_session.specs.declared.answerer.Stopped.{Stopped}
 use Rattle.line_session.specs.declared.answerer.Stopped.TheVariants.{Output, Disk}
-use Rattle.line_session.specs.Answering.{Answering, AnswersLine, Comes, GoesOn, Took}
+use Rattle.line_session.specs.Answering.{Answering, AnswersLine, Comes, Took}
 use Rattle.line_session.specs.Lines.{has_no_end, most_kept}
 use Rattle.line_session.specs.Runs.{IsAcknowledged}
 use Rattle.line_session.specs.Session.{Grows, AreAnswered, AreGiven, Goes, Quits, Breaks, Feeds}

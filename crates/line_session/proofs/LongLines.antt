@@ -1,5 +1,5 @@
 -- A line that is too long is told by its first bytes.
-use Rattle.std.proofs.Common.{◌≡◌, refl, sym, ap, subst, ℕ, ◌≤◌, ◌<◌, Bool, true, false, List, length, take, arith}
+use Rattle.std.proofs.Common.{◌≡◌, ℕ, ◌<◌, Bool, false, List, length, take, arith}
 use Rattle.std.proofs.lemmas.List.{length-take-le}
 use Rattle.eon_model.specs.OneLine as one
 use Rattle.line_session.specs.Lines.{most_kept}

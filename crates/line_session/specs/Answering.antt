@@ -1,5 +1,5 @@
 -- What a machine that answers lines does with one line.
-use Rattle.std.specs.Prelude.{◌≡◌, ◌⊎◌, ℕ, ◌+◌, ◌<◌, ⊤, IsTrue, IfSome, MatchBool, Bool, true, false, List, [], ◌∷◌, ◌++◌, length, take, Option, None, Some, Result, Ok, Err}
+use Rattle.std.specs.Prelude.{◌≡◌, ◌⊎◌, ℕ, ◌+◌, ◌<◌, ⊤, IsTrue, IfSome, MatchBool, Bool, true, false, List, [], ◌∷◌, length, take, Option, None, Some, Result, Ok, Err}
 use Rattle.std.specs.Io.KnownBytes.{Appends}
 use Rattle.eon_model.specs.Lists.{has_number}
 use Rattle.eon_model.specs.LineStream.{Machine, is_quit, IsPrefix}

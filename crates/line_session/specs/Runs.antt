@@ -1,9 +1,9 @@
 -- Runs of a machine over a stream of lines.
-use Rattle.std.specs.Prelude.{◌≡◌, ◌≢◌, ◌⊎◌, ℕ, ◌+◌, ◌≤◌, true, not, List, [], ◌∷◌, ◌++◌, length, IsTrue, Option, None, Some, IfSome}
+use Rattle.std.specs.Prelude.{◌≡◌, ◌≢◌, ℕ, ◌≤◌, List, [], ◌++◌, length, Option, None, IfSome}
 use Rattle.std.specs.Option.{option_to_list}
-use Rattle.std.specs.List.{list_all, list_any, count_by}
+use Rattle.std.specs.List.{count_by}
 use Rattle.std.specs.Io.KnownBytes.{Appends}
-use Rattle.eon_model.specs.LineStream.{Machine, AnswersEach, after_each, each_text, Replies, BeginsReplies, MissesNoneFrom, lines_of, IsPrefix}
+use Rattle.eon_model.specs.LineStream.{AnswersEach, each_text, Replies, BeginsReplies, lines_of, IsPrefix}
 use Rattle.line_session.specs.Answering.{Answering, MissesOnlyWhere}
 
 -- The sink below took this text behind the bytes that it had before. Nothing is said where one of them is not told.

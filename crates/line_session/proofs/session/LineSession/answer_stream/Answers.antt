@@ -3,7 +3,6 @@ use Rattle.std.specs.Io.KnownBytes.{Consumes}
 use Rattle.eon_model.specs.LineStream.{each_text}
 use Rattle.eon_model.specs.Modes.{stream_limit}
 use Rattle.line_session.proofs.EndLaws.{going_begin, going_on, stops_reading, stops_at_long, stops_broken, quits_read, finishes, cut_at, fed_on, fed_ended, counts_none, not_reading}
-use Rattle.line_session.proofs.FeedLaws.{stands_at}
 use Rattle.line_session.proofs.GoesLaws.{goes_begin}
 use Rattle.line_session.proofs.HeldLaws.{given_all, given_none}
 use Rattle.line_session.proofs.session.LineSession.answer_stream.Goals as goal
