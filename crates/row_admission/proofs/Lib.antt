@@ -1,0 +1,4 @@
+pub mod LeastLaws
+pub mod PairLaws
+pub mod PlaceLaws
+pub mod StateLaws
