@@ -1,0 +1,5 @@
+pub mod LightLaws
+pub mod HeldLaws
+pub mod StandLaws
+pub mod TurnLaws
+pub mod EventLaws
