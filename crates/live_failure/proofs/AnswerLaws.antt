@@ -6,10 +6,11 @@ use Rattle.eon_model.specs.LiveCommands.{LiveCommand, live_takes_memory, IsLiveL
 use Rattle.eon_model.specs.LiveReplies.{live_reply_text}
 use Rattle.eon_model.specs.OneLine as one
 use Rattle.eon_outside.specs.Writing.{AppendsPart}
-use Rattle.live_failure.specs.declared.answering.Flow.{Flow}
+use Rattle.line_session.specs.declared.answerer.Flow.{Flow}
+use Rattle.line_session.specs.Answering.{GoesOn}
 use Rattle.live_failure.specs.declared.reply.LiveReply.{LiveReply}
 use Rattle.live_failure.specs.declared.reply.LiveReply.TheVariants as reply
-use Rattle.live_failure.specs.Answering.{answer_told, Does, Decides, DecidesCommand, GoesOn, AnswersLine}
+use Rattle.live_failure.specs.Answering.{answer_told, Does, Decides, DecidesCommand, GivesAnswer}
 use Rattle.live_failure.specs.Replied.{reply_told}
 use Rattle.live_failure.specs.Seen.{LiveSeen}
 
@@ -60,7 +61,7 @@ module _ (old new : LiveSeen) (line : List ℕ) (r : LiveReply) (before now : Op
 
   pub answers_whole : {E : Type 0} (flow : Flow) →
       Appends before now (live_reply_text new.setup.network (reply_told new.state r)) → GoesOn flow line →
-      AnswersLine {E = E} old new line before now (Ok flow)
+      GivesAnswer {E = E} old new line before now (Ok flow)
   answers_whole flow given on = record {
     setup = h.setup;
     state = h.state;
@@ -74,7 +75,7 @@ module _ (old new : LiveSeen) (line : List ℕ) (r : LiveReply) (before now : Op
 
   pub answers_part : {E : Type 0} (e : E) →
       AppendsPart before now (live_reply_text new.setup.network (reply_told new.state r)) →
-      AnswersLine {E = E} old new line before now (Err e)
+      GivesAnswer {E = E} old new line before now (Err e)
   answers_part e part = record {
     setup = h.setup;
     state = h.state;

@@ -12,3 +12,4 @@ mod AnswerLaws
 mod GroupNumbers
 mod StandingLaws
 mod SaidLaws
+mod AskedLines

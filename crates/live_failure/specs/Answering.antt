@@ -1,14 +1,13 @@
 -- What is answered to commands and to lines.
-use Rattle.std.specs.Prelude.{◌≡◌, ℕ, ◌≤◌, Bool, true, false, List, length, Option, Result, IfOk, OnErr}
+use Rattle.std.specs.Prelude.{◌≡◌, ℕ, ◌≤◌, Bool, List, length, Option, Result, IfOk, OnErr}
 use Rattle.std.specs.Io.KnownBytes.{Appends}
-use Rattle.eon_model.specs.LineStream.{is_quit}
 use Rattle.eon_model.specs.LiveCommands.{LiveCommand, IsLiveLineOf}
 use Rattle.eon_model.specs.LiveRun.{LiveAnswers, live_answer_text}
 use Rattle.eon_model.specs.LiveStep.{LiveAnswer, live_answer}
 use Rattle.eon_model.specs.Services.{State}
 use Rattle.eon_outside.specs.Writing.{AppendsPart}
-use Rattle.live_failure.specs.declared.answering.Flow.{Flow}
-use Rattle.live_failure.specs.declared.answering.Flow.TheVariants.{On, Ended}
+use Rattle.line_session.specs.declared.answerer.Flow.{Flow}
+use Rattle.line_session.specs.Answering.{GoesOn}
 use Rattle.live_failure.specs.declared.reply.LiveReply.{LiveReply}
 use Rattle.live_failure.specs.Replied.{reply_told}
 use Rattle.live_failure.specs.Seen.{LiveSeen}
@@ -34,14 +33,9 @@ pub record Decides (old new : LiveSeen) (line : List ℕ) (r : LiveReply) : Type
 abbrev pub DecidesCommand : LiveSeen → LiveSeen → LiveCommand → LiveReply → Type 0
 DecidesCommand old new c r = (line : List ℕ) → length line ≤ 4096 → IsLiveLineOf line c → Decides old new line r
 
--- the run ends at `quit`, and goes on at every other line
-abbrev pub GoesOn : Flow → List ℕ → Type 0
-GoesOn On line = is_quit line ≡ false
-GoesOn Ended line = is_quit line ≡ true
-
 -- What is done with one line: the answer of the live mode is given. After a failure a part of it was given, and not all;
 -- the group that has failed is that of the answer.
-pub record AnswersLine {E : Type 0} (old new : LiveSeen) (line : List ℕ) (before now : Option (List ℕ))
+pub record GivesAnswer {E : Type 0} (old new : LiveSeen) (line : List ℕ) (before now : Option (List ℕ))
     (result : Result Flow E) : Type 0 where
   pub setup : new.setup ≡ old.setup
   pub state : new.state ≡ old.state

@@ -9,3 +9,5 @@ pub mod Seen
 pub mod Rivals
 pub mod Replied
 pub mod Answering
+pub mod Setting
+pub mod SettingLaws

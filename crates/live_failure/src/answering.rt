@@ -4,9 +4,10 @@ ghost use Rattle.std.specs.Io.KnownBytes.{Appends};
 ghost use Rattle.eon_model.specs.LiveReplies.{live_reply_text};
 ghost use Rattle.eon_outside.specs.Faults.{Stands};
 ghost use Rattle.eon_outside.specs.Writing.{AppendsPart};
+ghost use Rattle.line_session.specs.Answering.{GoesOn};
 ghost use Rattle.live_failure.specs.Told.{command_told};
 ghost use Rattle.live_failure.specs.Replied.{reply_told};
-ghost use Rattle.live_failure.specs.Answering.{Decides, DecidesCommand, GoesOn, AnswersLine};
+ghost use Rattle.live_failure.specs.Answering.{Decides, DecidesCommand, GivesAnswer};
 
 use crate::command::LiveCommand;
 use crate::live_state::Live;
@@ -14,18 +15,10 @@ use crate::reading::read_live;
 use crate::reply::LiveReply;
 use crate::writing::write_live;
 use eon_outside::{Failed, Sink};
+use line_session::Flow;
 
 /// The most bytes of a line.
 const LONGEST_LINE: usize = 4096;
-
-/// Whether the run goes on behind a line.
-#[derive(Clone, Copy, Debug, PartialEq, Eq)]
-pub enum Flow {
-    /// It goes on.
-    On,
-    /// The line was `quit`.
-    Ended,
-}
 
 // The reply to a command.
 fn reply_to_command(live: &mut Live, command: &LiveCommand) -> LiveReply
@@ -73,8 +66,12 @@ fn flow_behind(line: &[u8]) -> Flow
 /// Answers one line, without its byte 10: lets the group fail or work again that it asks for, and gives the reply. Only
 /// `exposed` may want memory; its answer is then `memory`. After a failure of the sink a part of the reply was given, and
 /// not all, and the group that has failed is that of the answer.
-pub fn answer_live<K: Sink>(live: &mut Live, line: &[u8], out: &mut K) -> Result<Flow, Failed>
-    ensures told { AnswersLine live.old live.new line.now (K.given out.old) (K.given out.new) result }
+pub(crate) fn answer_live<K: Sink>(
+    live: &mut Live,
+    line: &[u8],
+    out: &mut K,
+) -> Result<Flow, Failed>
+    ensures told { GivesAnswer live.old live.new line.now (K.given out.old) (K.given out.new) result }
     ensures stands { Stands (K.standing out.old) (K.standing out.new) result }
 {
     let reply = reply_to(live, line);

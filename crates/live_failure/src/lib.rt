@@ -1,5 +1,5 @@
 //! A failure in the live state: a group fails or works again, and what is then lit, dark, exposed and audited. The layer
-//! above makes a `Live` over a legal list of services, and calls `answer_live` for each line; or it reads a line by
+//! above makes a `Live` over a legal list of services, and has it answer the lines of a stream; or it reads a line by
 //! `read_live`, asks the calls of `Live`, and gives a reply by `write_live`. The services stay as they are.
 #![tactic(auto)]
 
@@ -11,6 +11,7 @@ mod exposing;
 mod fates;
 mod groups;
 mod lighting;
+mod lines;
 mod live_state;
 mod order;
 mod part;
@@ -21,7 +22,6 @@ mod reply;
 mod verb;
 mod writing;
 
-pub use answering::{Flow, answer_live};
 pub use command::{LiveCommand, LiveFault};
 pub use live_state::Live;
 pub use reading::read_live;
