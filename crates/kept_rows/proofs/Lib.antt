@@ -3,3 +3,4 @@ pub mod HeldLaws
 pub mod StandLaws
 pub mod TurnLaws
 pub mod EventLaws
+pub mod LeaveLaws

@@ -88,3 +88,15 @@ RefitsMoveTheBackup =
     (setup : Setup) (state : State) (name : Name) (s : Service) (b : Path) (n : ℤ) → service_of state name ≡ Some s
     → IsTrue (is_shared s.class) → s.leg.back ≡ Some b
     → turnover setup.network state (Event.Refit name n) ≡ backup_takes s.leg (units_of (moved_to b.slot n))
+
+-- A service that is making leaves in two steps: its new leg goes, as where the making is given up, and then its old one.
+abbrev pub LeavingWhileMaking : Type 0
+LeavingWhileMaking =
+    (setup : Setup) (state : State) (name : Name) (s : Service) (new : Leg) → Legal setup state
+    → service_of state name ≡ Some s → s.next ≡ Some new
+    → let net = setup.network in
+    let back = apply net state (Event.Back name) in
+    IsTrue (can_follow setup state (Event.Back name))
+    × (service_of back name ≡ Some (record s { next = None }))
+    × IsTrue (can_follow setup back (Event.Leave name))
+    × (apply net back (Event.Leave name) ≡ apply net state (Event.Leave name))

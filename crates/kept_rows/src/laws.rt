@@ -2,7 +2,7 @@
 
 ghost use Rattle.kept_rows.specs.StandingLaws.{StandingTellsRows, EventsMayTurn, StandingFollowsEvents};
 ghost use Rattle.kept_rows.specs.StandingLaws.{EnteringBringsALeg, LeavingTakesALeg, PushesTakeTheHull, DriftsEndInASlot};
-ghost use Rattle.kept_rows.specs.StandingLaws.{MakingsEndWithOneLeg, MakingBringsALeg, RefitsMoveTheBackup};
+ghost use Rattle.kept_rows.specs.StandingLaws.{MakingsEndWithOneLeg, MakingBringsALeg, RefitsMoveTheBackup, LeavingWhileMaking};
 
 /// Their rows and counts are those of the list.
 pub fn standing_tells_rows()
@@ -52,4 +52,9 @@ pub fn making_brings_a_leg()
 /// A refit moves the backup.
 pub fn refits_move_the_backup()
     ensures { RefitsMoveTheBackup }
+{}
+
+/// A service that is making leaves as if its making was given up first.
+pub fn leaving_gives_a_making_up()
+    ensures { LeavingWhileMaking }
 {}
