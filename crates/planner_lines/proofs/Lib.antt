@@ -1,0 +1,4 @@
+pub mod GivenLaws
+pub mod DecideLaws
+pub mod MakeLaws
+pub mod SettleLaws
