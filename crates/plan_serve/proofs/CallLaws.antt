@@ -1,11 +1,12 @@
 -- When a call does all that it is asked, by what the words ask for.
-use Rattle.std.proofs.Common.{◌≡◌, ◌≢◌, refl, sym, ◌∙◌, ap, subst, ◌⊎◌, inl, inr, ℕ, ◌+◌, ◌<◌, ◌≤◌, List, [], ◌∷◌, ◌++◌, length, length-append, take, drop, Option, Some, None, arith}
+use Rattle.std.proofs.Common.{◌≡◌, ◌≢◌, refl, sym, ◌∙◌, ap, subst, ◌⊎◌, inl, inr, ℕ, ◌+◌, ◌<◌, ◌≤◌, false, List, [], ◌∷◌, ◌++◌, length, length-append, take, drop, Option, Some, None, arith}
 use Rattle.std.specs.Prelude.{IfSome, IsSomeAnd, IsSome, is_some, ⊤}
 use Rattle.std.specs.FinMap.{get}
 use Rattle.std.specs.Io.KnownBytes.{Appends}
 use Rattle.std.proofs.lemmas.List.{take-append-drop}
 use Rattle.std.proofs.lemmas.Bool.{both_ways, false≢true}
 use Rattle.eon_model.specs.Legal.{Setup}
+use Rattle.eon_model.specs.Services.{State}
 use Rattle.eon_model.specs.Events.{Event}
 use Rattle.eon_model.specs.NetworkText.{IsNetworkTextOf}
 use Rattle.eon_model.specs.Journal.{left_at, Stands}
@@ -28,6 +29,8 @@ use Rattle.eon_outside.specs.Faults.{Standing, counted, IsSure}
 use Rattle.eon_outside.specs.Reading.{NamedFiles, IsThere}
 use Rattle.eon_outside.specs.WholeFile.{IsFile}
 use Rattle.journal_replay.specs.Replayed.{why_told}
+use Rattle.line_session.specs.Answering.{Answering}
+use Rattle.line_session.specs.Runs as session
 use Rattle.plan_journal.proofs.MomentLaws.{started}
 use Rattle.plan_serve.specs.declared.status.Status.{Status}
 use Rattle.plan_serve.specs.declared.status.Status.TheVariants.{Done, NetRefused, NetLong, NextRefused, NextLong, NotWider, ReadFault, DiskFault, JournalRefused, JournalOther, NotEmpty, JournalFull, Memory, WriteFault, InputLong}
@@ -36,12 +39,13 @@ use Rattle.plan_serve.specs.Outside.{Outside, Output, output_of, DiskSeen}
 use Rattle.eon_model.specs.Run.{situation}
 use Rattle.plan_serve.specs.Ends.{GoesOnBehind, EndsAtNetwork, DryEnds}
 use Rattle.plan_serve.specs.Driving.{DriveOver, DriveEnds}
-use Rattle.plan_serve.specs.JournalEnds.{Tells, MakeEnds, InitEnds, TellEnds, ReplayEnds}
+use Rattle.plan_serve.specs.JournalEnds.{Tells, MakeEnds, InitEnds, LeadsTo, TellEnds, ReplayEnds}
+use Rattle.plan_serve.specs.AskEnds.{IsNotReached, AsksStream, NoneInDoubt, AskEnds, HasRoomToAsk, live_on}
 use Rattle.plan_serve.specs.Binding.{IsFull}
 use Rattle.plan_serve.specs.MigrateEnds.{BindEnds, EndsAtNext, MigrateEnds, MayBeBound, behind, at_end}
 use Rattle.plan_serve.proofs.JournalModeLaws.{made_left}
 use Rattle.plan_serve.proofs.TopLaws.{some_left}
-use Rattle.plan_serve.specs.Top.{Ends, MayDrive, MayServe, MayMake, MayTell, MayBind, MayEnd, MayBeLeft, NoDiskFault, HasRoom, IsRoomy}
+use Rattle.plan_serve.specs.Top.{Ends, MayDrive, MayServe, MayMake, MayTell, MayAsk, MayBind, MayEnd, MayBeLeft, NoDiskFault, HasRoom, IsRoomy}
 
 -- ---- what the words ask for
 
@@ -60,6 +64,7 @@ IsThereFor (Init net journal) files = IsThere files net
 IsThereFor (Replay net journal) files = IsThere files net
 IsThereFor (Migrate net next journal) files = IsThere files net × IsThere files next
 IsThereFor (Drive net seed count) files = IsThere files net
+IsThereFor (Live net journal commands) files = IsThere files net × IsThere files commands
 IsThereFor t files = ⊤
 
 -- ---- one file, one network
@@ -282,6 +287,87 @@ drive_done told net seed count before now status files (inl h) may no_read no_wr
 drive_done told net seed count before now status files (inr h) may no_read no_write =
     drive_over_done h.1.0 seed count (output_of before) (output_of now) status h.1.2 no_write
 
+-- ---- the modes that answer a stream over the state of a journal
+
+-- the state is reached, or there was no memory
+reached_or : (setup : Setup) (digest journal bytes : List ℕ) (old new : DiskSeen) (status : Status) (events : List Event)
+    (place : ℕ) → old.bytes ≡ Some bytes → Stands bytes digest setup.journal events place → IsSome (replay setup events) →
+    IsNotReached setup digest journal old new status → (status ≡ DiskFault → ⊥) → status ≡ Memory
+reached_or setup digest journal bytes old new Memory events place told stands goes h no_disk = refl
+reached_or setup digest journal bytes old new DiskFault events place told stands goes h no_disk = absurd (no_disk refl)
+reached_or setup digest journal bytes old new (JournalRefused at why) events place told stands goes h no_disk =
+    absurd (standing-not_refused setup bytes digest events place at (why_told why) stands goes
+    (told_bytes old.bytes bytes (λ b. IsRefusedAt setup b digest at (why_told why)) told h.1))
+reached_or setup digest journal bytes old new (JournalOther kept own) events place told stands goes h no_disk =
+    let k = told_bytes old.bytes bytes (λ b. IsKept b setup.journal kept × (kept ≢ digest) × (own ≡ digest)) told h.1 in
+    absurd (standing-not_other setup bytes digest events place stands (record { kept = kept; keeps = k.0; differs = k.1 }))
+reached_or setup digest journal bytes old new _ events place told stands goes h no_disk = absurd h
+
+none_in_doubt : {A : Type 0} {x : A} → Some x ≡ None → ⊥
+none_in_doubt e = cc
+
+module _ {S A : Type 0} (by : Setup → State → Answering S A) (start : S) where
+  stream_done : (told : NamedFiles) (setup : Setup) (state : State) (commands stream : List ℕ) (before now : Outside)
+      (status : Status) → before.files ≡ Some told → get told commands ≡ Some stream → is_long_stream stream ≡ false →
+      AsksStream (by setup state) NoneInDoubt start commands before now status → (status ≡ ReadFault → ⊥) →
+      (status ≡ WriteFault → ⊥) → (status ≡ DiskFault → ⊥) → (status ≡ Done) ⊎ (status ≡ Memory)
+  stream_done told setup state commands stream before now Done files file short h no_read no_write no_disk = inl refl
+  stream_done told setup state commands stream before now Memory files file short h no_read no_write no_disk = inr refl
+  stream_done told setup state commands stream before now ReadFault files file short h no_read no_write no_disk =
+      absurd (no_read refl)
+  stream_done told setup state commands stream before now WriteFault files file short h no_read no_write no_disk =
+      absurd (no_write refl)
+  stream_done told setup state commands stream before now DiskFault files file short h no_read no_write no_disk =
+      absurd (no_disk refl)
+  stream_done told setup state commands stream before now InputLong files file short h no_read no_write no_disk =
+      let long = h.2 in
+      let same = one_file told commands long.stream stream (same_file told before.files commands long.stream files long.told)
+      file in
+      absurd (both_ways (is_long_stream stream) short (sym (ap is_long_stream same) ∙ long.long))
+  stream_done told setup state commands stream before now _ files file short h no_read no_write no_disk = absurd h
+
+  ask_done : (told : NamedFiles) (net journal commands bytes : List ℕ) (before now : Outside) (old new : DiskSeen)
+      (status : Status) → before.files ≡ Some told → old.bytes ≡ Some bytes →
+      AskEnds by start net journal commands before now old new status → MayAsk told net commands bytes →
+      (status ≡ ReadFault → ⊥) → (status ≡ WriteFault → ⊥) → (status ≡ DiskFault → ⊥) → (status ≡ Done) ⊎ (status ≡ Memory)
+  ask_done told net journal commands bytes before now old new status files disk h may no_read no_write no_disk = elim h.1 [
+    | inl k ↦ inr (accepted_ends told net may.journal.setup
+        (may.journal.network.bytes, may.journal.network.told, may.journal.network.accepted) before now files status k.1 no_read)
+    | inr k ↦ elim k.3 [
+      | inl j ↦
+          let same = one_network told before.files net k.0 may.journal.setup k.1 may.journal.digest files k.2
+          may.journal.network in
+          let stands = subst (λ (d : List ℕ). Stands bytes d k.0.journal may.journal.events may.journal.place) (sym same.digest)
+          (subst (λ (s : Setup). Stands bytes may.journal.digest s.journal may.journal.events may.journal.place)
+          (sym same.setup) may.journal.stands) in
+          let goes = subst (λ (s : Setup). IsSome (replay s may.journal.events)) (sym same.setup) may.journal.replays in
+          inr (reached_or k.0 k.1 journal bytes old new status may.journal.events may.journal.place disk stands goes j.2 no_disk)
+      | inr j ↦ stream_done told k.0 j.2 commands may.stream (behind net before) now status files may.file may.short j.4
+          no_read no_write no_disk
+    ]
+  ]
+
+  asked_read : (net journal commands : List ℕ) (before now : Outside) (old new : DiskSeen) →
+      AskEnds by start net journal commands before now old new ReadFault → now.read_faults ≡ counted before.read_faults
+  asked_read net journal commands before now old new h = elim h.1 [
+    | inl k ↦ k.1.0
+    | inr k ↦ elim k.3 [ inl j ↦ absurd j.2 | inr j ↦ j.4.1 ]
+  ]
+
+  asked_write : (net journal commands : List ℕ) (before now : Outside) (old new : DiskSeen) →
+      AskEnds by start net journal commands before now old new WriteFault → now.write_faults ≡ counted before.write_faults
+  asked_write net journal commands before now old new h = elim h.1 [
+    | inl k ↦ absurd k.1
+    | inr k ↦ elim k.3 [ inl j ↦ absurd j.2 | inr j ↦ j.4.2 ]
+  ]
+
+  asked_disk : (net journal commands : List ℕ) (before now : Outside) (old new : DiskSeen) →
+      AskEnds by start net journal commands before now old new DiskFault → new.faults ≡ counted old.faults
+  asked_disk net journal commands before now old new h = elim h.1 [
+    | inl k ↦ absurd k.1
+    | inr k ↦ elim k.3 [ inl j ↦ j.2.1 | inr j ↦ absurd (none_in_doubt j.4.2.1.carries.went) ]
+  ]
+
 -- ---- all modes
 
 done : (task : Option Task) (before now : Outside) (old new : DiskSeen) (status : Status) →
@@ -307,7 +393,10 @@ done (Some (Migrate net next journal)) before now old new status (Some told) Non
 done (Some (Drive net seed count)) before now old new status (Some told) bytes is disk h may no_read no_write no_disk =
     drive_done told net seed count before now status is h may no_read no_write
 done (Some (Drive net seed count)) before now old new status None bytes is disk h may no_read no_write no_disk = absurd may
-done (Some (Live net journal commands)) before now old new status files bytes is disk h may no_read no_write no_disk = absurd may
+done (Some (Live net journal commands)) before now old new status (Some told) (Some bytes) is disk h may no_read no_write no_disk =
+    ask_done live_on None told net journal commands bytes before now old new status is disk h may no_read no_write no_disk
+done (Some (Live net journal commands)) before now old new status None bytes is disk h may no_read no_write no_disk = absurd may
+done (Some (Live net journal commands)) before now old new status (Some told) None is disk h may no_read no_write no_disk = absurd may
 done (Some (Room net journal commands)) before now old new status files bytes is disk h may no_read no_write no_disk = absurd may
 done None before now old new status files bytes is disk h may no_read no_write no_disk = absurd may
 
@@ -325,7 +414,8 @@ read_counted (Some (Migrate net next journal)) before now old new h = elim h [
   | inr k ↦ elim k.3 [ inl j ↦ j.1.1 | inr j ↦ absurd j.1.3.1.2 ]
 ]
 read_counted (Some (Drive net seed count)) before now old new h = elim h [ inl k ↦ k.0 | inr k ↦ absurd k.1.2.4 ]
-read_counted (Some (Live net journal commands)) before now old new h = absurd h
+read_counted (Some (Live net journal commands)) before now old new h =
+    asked_read live_on None net journal commands before now old new h
 read_counted (Some (Room net journal commands)) before now old new h = absurd h
 read_counted None before now old new h = absurd h
 
@@ -341,7 +431,8 @@ write_counted (Some (Migrate net next journal)) before now old new h = elim h [
   | inr k ↦ elim k.3 [ inl j ↦ absurd j.1 | inr j ↦ j.1.3.1.2.1 ]
 ]
 write_counted (Some (Drive net seed count)) before now old new h = elim h [ inl k ↦ absurd k | inr k ↦ k.1.2.4.1 ]
-write_counted (Some (Live net journal commands)) before now old new h = absurd h
+write_counted (Some (Live net journal commands)) before now old new h =
+    asked_write live_on None net journal commands before now old new h
 write_counted (Some (Room net journal commands)) before now old new h = absurd h
 write_counted None before now old new h = absurd h
 
@@ -357,7 +448,8 @@ disk_counted (Some (Migrate net next journal)) before now old new h none = elim 
   | inr k ↦ elim k.3 [ inl j ↦ j.1 | inr j ↦ none j.1.3.1.0.1 ]
 ]
 disk_counted (Some (Drive net seed count)) before now old new h none = elim h [ inl k ↦ k | inr k ↦ k.1.2.4 ]
-disk_counted (Some (Live net journal commands)) before now old new h none = h
+disk_counted (Some (Live net journal commands)) before now old new h none =
+    none (asked_disk live_on None net journal commands before now old new h)
 disk_counted (Some (Room net journal commands)) before now old new h none = h
 disk_counted None before now old new h none = h
 
@@ -424,6 +516,38 @@ dry_broken net commands disk before now old new h roomy same counts sure =
         (roomy h.3.0 h.3.2.stream early.missed (h.3.2.begins.part ++ early.rest) early.changes h.3.1 h.3.2.told early.run))
         appends (counts ∙ h.2) sure early.more
 
+module _ {S A : Type 0} (by : Setup → State → Answering S A) (start : S) (net commands : List ℕ)
+    (disk : Option (List ℕ)) (before now : Outside) (old new : Standing) (setup : Setup) (digest : List ℕ) (events : List Event)
+    (state : State) where
+  stream_broken : IsDigestedFile before.files net setup digest → LeadsTo setup digest disk events state →
+      AsksStream (by setup state) NoneInDoubt start commands (behind net before) now WriteFault →
+      HasRoomToAsk by start net commands before.files disk before.given old → new.room ≡ old.room →
+      new.faults ≡ now.write_faults → IsSure new now.given → ⊥
+  stream_broken file leads h roomy same counts sure = by_given before.given h.3.begins.given h.3.early roomy
+    where
+      by_given : (given : Option (List ℕ)) → Appends given now.given h.3.begins.part →
+          IfSome given (λ _. session.GoesOnBehind (by setup state) start h.3.stream h.3.begins.part) →
+          HasRoomToAsk by start net commands before.files disk given old → ⊥
+      by_given None appends early roomy = roomy
+      by_given (Some bytes) appends early roomy =
+          room_broken new.room bytes now.given before.write_faults new.faults h.3.begins.part early.rest
+          (subst (λ (v : Option ℕ). IsSomeAnd v (λ r. length bytes + length (h.3.begins.part ++ early.rest) ≤ r)) (sym same)
+          (roomy setup digest events state h.3.stream early.missed (h.3.begins.part ++ early.rest) file leads h.3.told early.run))
+          appends (counts ∙ h.2) sure early.more
+
+ask_broken : {S A : Type 0} (by : Setup → State → Answering S A) (start : S) (net journal commands : List ℕ)
+    (before now : Outside) (disk later : DiskSeen) (old new : Standing) →
+    AskEnds by start net journal commands before now disk later WriteFault →
+    HasRoomToAsk by start net commands before.files disk.bytes before.given old → new.room ≡ old.room →
+    new.faults ≡ now.write_faults → IsSure new now.given → ⊥
+ask_broken by start net journal commands before now disk later old new h roomy same counts sure = elim h.1 [
+  | inl k ↦ k.1
+  | inr k ↦ elim k.3 [
+    | inl j ↦ j.2
+    | inr j ↦ stream_broken by start net commands disk.bytes before now old new k.0 k.1 j.1 j.2 k.2 j.3 j.4 roomy same counts sure
+  ]
+]
+
 broken : (task : Option Task) (before now : Outside) (disk later : DiskSeen) (old new : Standing) →
     Ends task before now disk later WriteFault → IsRoomy task before.files disk.bytes before.given old →
     new.room ≡ old.room → new.faults ≡ now.write_faults → IsSure new now.given → ⊥
@@ -454,7 +578,8 @@ broken (Some (Drive net seed count)) before now disk later old new h roomy same 
       let t = k.1.2 in
       tells_broken t.1 (output_of before) (output_of now) old new t.4 (roomy k.1.0 t.0 t.1 k.1.1 t.2) same counts sure
 ]
-broken (Some (Live net journal commands)) before now disk later old new h roomy same counts sure = h
+broken (Some (Live net journal commands)) before now disk later old new h roomy same counts sure =
+    ask_broken live_on None net journal commands before now disk later old new h roomy same counts sure
 broken (Some (Room net journal commands)) before now disk later old new h roomy same counts sure = h
 broken None before now disk later old new h roomy same counts sure = h
 
@@ -495,7 +620,12 @@ there task t files bytes is may = by_task t files bytes (subst (λ (v : Option T
     by_task (Migrate net next journal) (Some told) None may = absurd may
     by_task (Drive net seed count) (Some told) bytes may = is_there told net may.network.0 may.network.1
     by_task (Drive net seed count) None bytes may = absurd may
-    by_task (Live net journal commands) files bytes may = absurd may
+    by_task (Live net journal commands) (Some told) (Some bytes) may = (
+      is_there told net may.journal.network.bytes may.journal.network.told,
+      is_there told commands may.stream may.file,
+    )
+    by_task (Live net journal commands) None bytes may = absurd may
+    by_task (Live net journal commands) (Some told) None may = absurd may
     by_task (Room net journal commands) files bytes may = absurd may
 
 -- ---- the disk

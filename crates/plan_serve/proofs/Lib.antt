@@ -11,6 +11,7 @@ pub mod DriveLaws
 pub mod EndLaws
 pub mod TopLaws
 pub mod JournalModeLaws
+pub mod AskLaws
 pub mod BindingSteps
 pub mod MigrateModeLaws
 pub mod CallLaws

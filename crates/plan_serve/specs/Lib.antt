@@ -1,4 +1,5 @@
 pub mod Answering
+pub mod AskEnds
 pub mod Binding
 pub mod Driving
 pub mod Ends

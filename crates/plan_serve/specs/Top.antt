@@ -6,7 +6,7 @@ use Rattle.eon_model.specs.Services.{State}
 use Rattle.eon_model.specs.Legal.{Setup}
 use Rattle.eon_model.specs.Events.{Event}
 use Rattle.eon_model.specs.Modes.{Task, is_long_stream}
-use Rattle.eon_model.specs.Modes.Task.{Dry, Init, Replay, Drive, Migrate}
+use Rattle.eon_model.specs.Modes.Task.{Dry, Init, Replay, Drive, Migrate, Live}
 use Rattle.eon_model.specs.TopLines.{usage_line, init_line, replay_text, migrate_line}
 use Rattle.eon_model.specs.Journal.{left_at, Stands}
 use Rattle.eon_model.specs.DriveSummary.{Drives}
@@ -20,6 +20,7 @@ use Rattle.eon_outside.specs.WholeFile.{IsFile}
 use Rattle.plan_serve.specs.declared.status.Status.{Status}
 use Rattle.plan_serve.specs.declared.status.Status.TheVariants.{Words, NetRefused, NetLong, ReadFault, Memory, Later}
 use Rattle.eon_model.specs.Answers.{Answers}
+use Rattle.plan_serve.specs.AskEnds.{AskEnds, RefusesNetwork, HasRoomToAsk, live_on}
 use Rattle.plan_serve.specs.Files.{IsAcceptedFile, IsDigestedFile}
 use Rattle.plan_serve.specs.Outside.{Outside, DiskSeen, NotRead}
 use Rattle.plan_serve.specs.Ends.{Says, DryEnds}
@@ -47,6 +48,8 @@ Ends (Some (Replay net journal)) before now old new status = ReplayEnds net jour
 Ends (Some (Migrate net next journal)) before now old new status =
     MigrateEnds net next journal before now old new status
 Ends (Some (Drive net seed count)) before now old new status = DriveEnds net seed count before now status
+Ends (Some (Live net journal commands)) before now old new status =
+    AskEnds live_on None net journal commands before now old new status
 Ends None before now old new Words = SaysOnly usage_line before now
 Ends None before now old new Memory = DoesNothing before now
 Ends None before now old new _ = ⊥
@@ -62,6 +65,7 @@ AskedAt (Some (Init net journal)) status = (status ≢ Words) × (status ≢ Lat
 AskedAt (Some (Replay net journal)) status = (status ≢ Words) × (status ≢ Later)
 AskedAt (Some (Migrate net next journal)) status = (status ≢ Words) × (status ≢ Later)
 AskedAt (Some (Drive net seed count)) status = (status ≢ Words) × (status ≢ Later)
+AskedAt (Some (Live net journal commands)) status = (status ≢ Words) × (status ≢ Later)
 AskedAt (Some _) status = (status ≡ Later) ⊎ (status ≡ Memory)
 
 -- ---- the disk
@@ -78,6 +82,7 @@ abbrev pub NeedsNoDisk : Option Task → Status → Type 0
 NeedsNoDisk (Some (Init net journal)) status = IsEarly status
 NeedsNoDisk (Some (Replay net journal)) status = IsEarly status
 NeedsNoDisk (Some (Migrate net next journal)) status = StopsEarly status
+NeedsNoDisk (Some (Live net journal commands)) status = RefusesNetwork status
 NeedsNoDisk task status = ⊤
 
 -- what a crash may leave is told, for a mode that binds a journal only where the disk tells its bytes
@@ -97,6 +102,7 @@ abbrev pub NoDiskFault : Option Task → ℕ → ℕ → Type 0
 NoDiskFault (Some (Init net journal)) before now = now ≢ counted before
 NoDiskFault (Some (Replay net journal)) before now = now ≢ counted before
 NoDiskFault (Some (Migrate net next journal)) before now = now ≢ counted before
+NoDiskFault (Some (Live net journal commands)) before now = now ≢ counted before
 NoDiskFault task before now = ⊤
 
 -- ---- when nothing is in the way
@@ -124,6 +130,13 @@ pub record MayTell (told : NamedFiles) (net bytes : List ℕ) : Type 0 where
   pub place : ℕ
   pub stands : Stands bytes digest setup.journal events place
   pub replays : IsSome (replay setup events)
+
+-- So they are, and the stream is there and not too long.
+pub record MayAsk (told : NamedFiles) (net commands bytes : List ℕ) : Type 0 where
+  pub journal : MayTell told net bytes
+  pub stream : List ℕ
+  pub file : get told commands ≡ Some stream
+  pub short : is_long_stream stream ≡ false
 
 -- The network is accepted, and one that widens it; the journal on the disk is bound to the first, stands for events that replay,
 -- and has room for the binding.
@@ -153,6 +166,7 @@ MayEnd (Some (Init net journal)) (Some told) (Some bytes) = MayMake told net byt
 MayEnd (Some (Replay net journal)) (Some told) (Some bytes) = MayTell told net bytes
 MayEnd (Some (Migrate net next journal)) (Some told) (Some bytes) = MayBind told net next bytes
 MayEnd (Some (Drive net seed count)) (Some told) bytes = MayDrive told net
+MayEnd (Some (Live net journal commands)) (Some told) (Some bytes) = MayAsk told net commands bytes
 MayEnd task files bytes = ⊥
 
 -- the sink is sure of room for so many bytes more
@@ -176,4 +190,6 @@ IsRoomy (Some (Migrate net next journal)) files disk given standing = HasRoom gi
 IsRoomy (Some (Drive net seed count)) files disk given standing =
     (setup : Setup) (missed output : List ℕ) → IsAcceptedFile files net setup → Drives setup seed count missed output
     → HasRoom given standing (length output)
+IsRoomy (Some (Live net journal commands)) files disk given standing =
+    HasRoomToAsk live_on None net commands files disk given standing
 IsRoomy task files disk given standing = ⊤

@@ -174,8 +174,8 @@ fn tell_over<K: Sink, D: Deck>(
     }
 }
 
-// Attaches the journal, and follows the events that stand in it.
-fn follow<D: Deck>(
+/// Attaches the journal, and follows the events that stand in it.
+pub(crate) fn follow<D: Deck>(
     core: &mut Core,
     disk: &mut D,
     journal: &str,

@@ -4,6 +4,7 @@
 #![tactic(auto)]
 
 mod answering;
+mod ask;
 mod drive;
 mod fault_line;
 mod journal;
@@ -11,6 +12,7 @@ mod migrate;
 mod network;
 mod session;
 pub mod status;
+mod stream;
 pub mod top;
 
 pub use status::Status;

@@ -49,8 +49,8 @@ fn head_refused(fault: OpenFault) -> Status
     }
 }
 
-// The status of a journal that does not replay.
-fn not_replayed(fault: ReplayFault) -> Status
+/// The status of a journal that does not replay.
+pub(crate) fn not_replayed(fault: ReplayFault) -> Status
     ensures { result ≡ replay_status fault }
 {
     match fault {

@@ -13,12 +13,14 @@ ghost use Rattle.plan_serve.specs.Outside.{outside, disk_seen};
 ghost use Rattle.plan_serve.specs.Ends.{DryEnds, StreamEnds, AnswersStream, CountsReads, StandsAt};
 ghost use Rattle.plan_serve.specs.Top.{Ends, AskedAt, NeedsNoDisk, MayBeLeft, NoDiskFault, IsToldFor, MayEnd, IsRoomy};
 
+use crate::ask::live;
 use crate::drive::drive;
 use crate::journal::{make_journal, tell_journal};
 use crate::migrate::migrate;
 use crate::network::read_network;
 use crate::session::Session;
 use crate::status::{Status, refuse};
+use crate::stream::{HELD_BACK, PIECE};
 use eon_disk::Deck;
 use eon_outside::{Buffered, Failed, Shelf, Sink, Start};
 use net_setup::NetSetup;
@@ -27,16 +29,11 @@ use plan_words::words::{Words, WordsFault, words_of};
 use std::alloc::{AllocError, Global};
 use std::marker::Brand;
 
-/// How many bytes of the command stream are read at a time.
-const PIECE: usize = 65_536;
-
-/// How many bytes of replies are held back.
-const HELD_BACK: usize = 65_536;
-
 /// Does what the words ask for. `dry NET COMMANDS` answers each line of a command stream over a network, up to `quit`.
 /// `init NET JOURNAL` makes a journal for the network, and `replay NET JOURNAL` tells how many events stand in it, and the
 /// list that they lead to. `migrate NET NEXT JOURNAL` binds the journal of a network to a wider one, and `drive NET SEED COUNT`
-/// answers commands that are made from a seed, and sums up the replies. The files are opened by the shelf, the journal is attached to the disk, and what is said is
+/// answers commands that are made from a seed, and sums up the replies. `live NET JOURNAL COMMANDS` answers the lines of a command
+/// stream over the list that a journal leads to, while groups fail. The files are opened by the shelf, the journal is attached to the disk, and what is said is
 /// given to `out`.
 pub fn plan_main<H: Shelf, K: Sink, D: Deck>(
     alloc: Global,
@@ -71,6 +68,13 @@ pub fn plan_main<H: Shelf, K: Sink, D: Deck>(
             migrate(alloc, net, next, journal, shelf, out, disk)
         }
         Ok(Words::Drive { net, seed, count }) => drive(alloc, net, seed, count, shelf, out),
+        Ok(
+            Words::Live {
+                net,
+                journal,
+                commands,
+            },
+        ) => live(alloc, net, journal, commands, shelf, out, disk),
         Ok(_) => refuse(out, Status::Later),
         Err(WordsFault::Refused) => refuse(out, Status::Words),
         Err(WordsFault::Memory) => Status::Memory,

@@ -1,6 +1,6 @@
 use Rattle.std.proofs.Common.{refl, sym, subst, Option}
 use Rattle.eon_model.specs.Modes.{Task}
-use Rattle.eon_model.specs.Modes.Task.{Dry, Init, Replay, Migrate, Drive}
+use Rattle.eon_model.specs.Modes.Task.{Dry, Init, Replay, Migrate, Drive, Live}
 use Rattle.eon_model.specs.Disk.{LeavesOnly}
 use Rattle.plan_words.specs.declared.words.Words.TheVariants as word
 use Rattle.plan_serve.specs.Outside.{outside, disk_seen}
@@ -272,3 +272,60 @@ returns-in-Ok-Drive-clause-calm g c = λ may calm roomy no_disk.
 pub returns-in-Ok-Drive-clause-moments : goal.returns-in-Ok-Drive-clause-moments
 returns-in-Ok-Drive-clause-moments g c = λ told.
     none_made g.D.Disk.clock g.D.Disk.images_since g.D.Disk.images g.met.D.Disk.only_now c.args.disk.now _ c.drive.result _ _
+
+-- ---- Live
+
+pub returns-in-Ok-Live-clause-completeness : goal.returns-in-Ok-Live-clause-completeness
+returns-in-Ok-Live-clause-completeness g c = λ may no_read no_write no_disk.
+    let task = Live c.in-Ok-Live.net.now c.in-Ok-Live.journal.now c.in-Ok-Live.commands.now in
+    let is = task_is _ (word.Live c.in-Ok-Live.net c.in-Ok-Live.journal c.in-Ok-Live.commands) _ c.in-Ok-Live.ensures.task
+    c.in-Ok-Live.field-0-is in
+    let shelf = c.args.shelf.now in
+    let later = c.live.new.shelf in
+    let disk = c.args.disk.now in
+    let kept = c.live.new.disk in
+    let before = outside (g.H.Shelf.files shelf) (g.H.Shelf.opened shelf) (g.H.Shelf.left shelf) (g.H.Shelf.faults shelf)
+    (g.K.Sink.given c.args.out.now) (g.K.Sink.standing c.args.out.now) in
+    let now = outside (g.H.Shelf.files later) (g.H.Shelf.opened later) (g.H.Shelf.left later) (g.H.Shelf.faults later)
+    (g.K.Sink.given c.live.new.out) (g.K.Sink.standing c.live.new.out) in
+    let old = disk_seen (g.D.Disk.now disk) (g.D.Disk.images disk) (g.D.Disk.asked disk) (g.D.Disk.faults disk) in
+    let new = disk_seen (g.D.Disk.now kept) (g.D.Disk.images kept) (g.D.Disk.asked kept) (g.D.Disk.faults kept) in
+    let ends = ends_as _ task before now old new c.live.result is c.live.ensures.ends in
+    completes _ before now old new c.live.result ends may no_read no_write no_disk
+
+pub returns-in-Ok-Live-clause-calm : goal.returns-in-Ok-Live-clause-calm
+returns-in-Ok-Live-clause-calm g c = λ may calm roomy no_disk.
+    let task = Live c.in-Ok-Live.net.now c.in-Ok-Live.journal.now c.in-Ok-Live.commands.now in
+    let is = task_is _ (word.Live c.in-Ok-Live.net c.in-Ok-Live.journal c.in-Ok-Live.commands) _ c.in-Ok-Live.ensures.task
+    c.in-Ok-Live.field-0-is in
+    let shelf = c.args.shelf.now in
+    let later = c.live.new.shelf in
+    let disk = c.args.disk.now in
+    let kept = c.live.new.disk in
+    let before = outside (g.H.Shelf.files shelf) (g.H.Shelf.opened shelf) (g.H.Shelf.left shelf) (g.H.Shelf.faults shelf)
+    (g.K.Sink.given c.args.out.now) (g.K.Sink.standing c.args.out.now) in
+    let now = outside (g.H.Shelf.files later) (g.H.Shelf.opened later) (g.H.Shelf.left later) (g.H.Shelf.faults later)
+    (g.K.Sink.given c.live.new.out) (g.K.Sink.standing c.live.new.out) in
+    let old = disk_seen (g.D.Disk.now disk) (g.D.Disk.images disk) (g.D.Disk.asked disk) (g.D.Disk.faults disk) in
+    let new = disk_seen (g.D.Disk.now kept) (g.D.Disk.images kept) (g.D.Disk.asked kept) (g.D.Disk.faults kept) in
+    let ends = ends_as _ task before now old new c.live.result is c.live.ensures.ends in
+    let files = there _ task (g.H.Shelf.files shelf) (g.D.Disk.now disk) is may in
+    calm_ends _ before now old new (g.K.Sink.standing c.args.out.now) (g.K.Sink.standing c.live.new.out) c.live.result ends
+    may roomy (c.live.ensures.calm calm files.0 files.1) c.live.ensures.room refl
+    (g.met.K.Sink.sure c.live.new.out) no_disk
+
+pub returns-in-Ok-Live-clause-untouched : goal.returns-in-Ok-Live-clause-untouched
+returns-in-Ok-Live-clause-untouched g c = λ early.
+    let task = Live c.in-Ok-Live.net.now c.in-Ok-Live.journal.now c.in-Ok-Live.commands.now in
+    let is = task_is _ (word.Live c.in-Ok-Live.net c.in-Ok-Live.journal c.in-Ok-Live.commands) _ c.in-Ok-Live.ensures.task
+    c.in-Ok-Live.field-0-is in
+    c.live.ensures.untouched (subst (λ (v : Option Task). NeedsNoDisk v c.live.result) is early)
+
+pub returns-in-Ok-Live-clause-moments : goal.returns-in-Ok-Live-clause-moments
+returns-in-Ok-Live-clause-moments g c = λ told.
+    let task = Live c.in-Ok-Live.net.now c.in-Ok-Live.journal.now c.in-Ok-Live.commands.now in
+    let is = task_is _ (word.Live c.in-Ok-Live.net c.in-Ok-Live.journal c.in-Ok-Live.commands) _ c.in-Ok-Live.ensures.task
+    c.in-Ok-Live.field-0-is in
+    subst (λ (v : Option Task). LeavesOnly g.D.Disk.clock g.D.Disk.images_since c.args.disk.now c.live.new.disk
+    (MayBeLeft v c.live.result (g.H.Shelf.files c.args.shelf.now) (g.D.Disk.now c.args.disk.now) (g.D.Disk.images c.args.disk.now)))
+    (sym is) c.live.ensures.moments
