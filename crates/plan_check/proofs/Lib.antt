@@ -3,3 +3,7 @@ pub mod Verdicts
 pub mod Flights
 pub mod JudgeSteps
 pub mod BadSteps
+pub mod NumberedSteps
+pub mod EnterSteps
+pub mod ListSteps
+pub mod PlanParts

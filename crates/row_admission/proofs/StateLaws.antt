@@ -1,5 +1,5 @@
 -- The first placement over the rows of a legal state is the first one with which the state is legal.
-use Rattle.std.proofs.Common.{◌≡◌, refl, sym, ◌∙◌, ap, ℕ, ◌+◌, ℤ, arith, Bool, true, false, cond, List, [], ◌∷◌, ◌++◌, map, length, Option, Some, None}
+use Rattle.std.proofs.Common.{◌≡◌, refl, sym, ◌∙◌, ap, ℕ, ◌+◌, ◌<◌, ℤ, arith, Bool, true, false, cond, List, [], ◌∷◌, ◌++◌, map, length, Option, Some, None}
 use Rattle.std.specs.Option.{option_map, option_or, option_to_list}
 use Rattle.std.specs.List.{flat_map}
 use Rattle.std.proofs.lemmas.Bool.{both_ways}
@@ -9,15 +9,16 @@ use Rattle.eon_model.specs.Grid.{Band, units_of}
 use Rattle.eon_model.specs.Names.{Name}
 use Rattle.eon_model.specs.Services.{Path, Leg, Service, State, Holding, owned_legs, is_moving, service_of, holding_of}
 use Rattle.eon_model.specs.Legal.{Setup, is_shared, is_protected, Legal}
-use Rattle.eon_model.specs.Candidates.{SizedRoute, Candidate}
+use Rattle.eon_model.specs.Candidates.{SizedRoute, Candidate, candidates}
 use Rattle.eon_model.specs.Changes.{change_service, without_service, with_next}
 use Rattle.eon_model.specs.FirstByRows.{first_by_rows}
-use Rattle.eon_model.specs.FirstFit.{first_placement}
+use Rattle.eon_model.specs.FirstFit.{Placement, first_placement}
 use Rattle.eon_model.specs.FirstInRows.{least_channel, least_backup, placed_at, first_in_rows}
-use Rattle.eon_model.specs.Occupied.{Reserve, sharers_among, sharers_of, reserves_by, rows_of, counts_of, leg_of_service}
+use Rattle.eon_model.specs.Occupied.{RowsOf, Reserve, sharers_among, sharers_of, reserves_by, rows_of, counts_of, leg_of_service}
 use Rattle.eon_model.specs.Rows.{Rows, Counts}
 use Rattle.eon_model.specs.Sets.{NumberSet}
-use Rattle.eon_model.specs.Step.{new_service}
+use Rattle.eon_model.specs.Commands.{Demand}
+use Rattle.eon_model.specs.Step.{node_numbered, new_service}
 use Rattle.eon_model.proofs.BackupLaws.{fits-parts, backup-protected}
 use Rattle.eon_model.proofs.ChangeLaws.{named_fits}
 use Rattle.eon_model.proofs.ClashLaws.{at_rest}
@@ -93,26 +94,43 @@ module _ (setup : Setup) (state : State) (name : Name) (s : Service) (legal : Le
       (counts_beside (Some (reserved s.leg.work.route.risk b.route.fibres (units_of b.slot))) (counts_of state))
       (counts_of (without_service name state)) 0 cs
 
--- ---- the answers
+-- ---- what is found, and the answers
 
-module _ (rows : Rows) (counts : Counts) (band : Band) (class : Class) (own : Option Leg) (pairs : List Candidate)
-    (answer : Admit) (is : answer ≡ answer_in_rows rows counts band class own pairs) where
-  pub first-new : IsFirstForNewService rows counts band class own pairs answer
-  first-new = λ setup state d avoid same band_is class_is none legal room fresh these.
-      let net = setup.network in
-      is ∙ ap (answer_for (length pairs))
-      ((λ i. first_in_rows (sym band_is i) (same.rows_are i) (counts_beside (backup_of (none i)) (same.counts_are i))
-      (sym class_is i) 0 pairs)
-      ∙ ap (first_by_rows setup.band state state d.class 0) these
-      ∙ sym (first_new setup state legal d avoid room fresh)
-      ∙ ap (λ (cs : List Candidate). first_placement setup cs (λ l. state ++ new_service net d l ∷ [])) (sym these))
+module _ (rows : Rows) (counts : Counts) (band : Band) (class : Class) (own : Option Leg) (pairs : List Candidate) where
+  abbrev pub found_first : Option Placement
+  found_first = first_in_rows band rows (counts_beside (backup_of own) counts) class 0 pairs
 
-  pub first-second : IsFirstForSecondLeg rows counts band class own pairs answer
-  first-second = λ setup state name s avoid same band_is class_is own_is legal found rest these.
-      is ∙ ap (answer_for (length pairs))
-      ((λ i. first_in_rows (sym band_is i) (same.rows_are i) (counts_beside (backup_of (own_is i)) (same.counts_are i))
-      (sym class_is i) 0 pairs)
-      ∙ beside setup state name s legal found rest setup.band pairs s.class s.leg.back refl refl
-      ∙ ap (first_by_rows setup.band state (without_service name state) s.class 0) these
-      ∙ sym (first_second setup state legal name s avoid found rest)
-      ∙ ap (λ (cs : List Candidate). first_placement setup cs (λ l. change_service name (with_next l) state)) (sym these))
+  module _ (setup : Setup) (state : State) (avoid : Option ℕ) (same : RowsOf state rows counts)
+      (band_is : setup.band ≡ band) (legal : Legal setup state) where
+    pub new-is : (d : Demand) → d.class ≡ class → own ≡ None → length state < setup.services →
+        service_of state d.name ≡ None →
+        pairs ≡ candidates setup (node_numbered setup.network d.src) (node_numbered setup.network d.dst) d.rate d.class avoid →
+        found_first ≡ first_placement setup pairs (λ l. state ++ new_service setup.network d l ∷ [])
+    new-is d class_is none room fresh these =
+        let net = setup.network in
+        (λ i. first_in_rows (sym band_is i) (same.rows_are i) (counts_beside (backup_of (none i)) (same.counts_are i))
+        (sym class_is i) 0 pairs)
+        ∙ ap (first_by_rows setup.band state state d.class 0) these
+        ∙ sym (first_new setup state legal d avoid room fresh)
+        ∙ ap (λ (cs : List Candidate). first_placement setup cs (λ l. state ++ new_service net d l ∷ [])) (sym these)
+
+    pub second-is : (name : Name) (s : Service) → s.class ≡ class → own ≡ Some s.leg → service_of state name ≡ Some s →
+        is_moving s ≡ false → pairs ≡ candidates setup s.src s.dst s.rate s.class avoid →
+        found_first ≡ first_placement setup pairs (λ l. change_service name (with_next l) state)
+    second-is name s class_is own_is found rest these =
+        (λ i. first_in_rows (sym band_is i) (same.rows_are i) (counts_beside (backup_of (own_is i)) (same.counts_are i))
+        (sym class_is i) 0 pairs)
+        ∙ beside setup state name s legal found rest setup.band pairs s.class s.leg.back refl refl
+        ∙ ap (first_by_rows setup.band state (without_service name state) s.class 0) these
+        ∙ sym (first_second setup state legal name s avoid found rest)
+        ∙ ap (λ (cs : List Candidate). first_placement setup cs (λ l. change_service name (with_next l) state)) (sym these)
+
+  module _ (answer : Admit) (is : answer ≡ answer_in_rows rows counts band class own pairs) where
+    pub first-new : IsFirstForNewService rows counts band class own pairs answer
+    first-new = λ setup state d avoid same band_is class_is none legal room fresh these.
+        is ∙ ap (answer_for (length pairs)) (new-is setup state avoid same band_is legal d class_is none room fresh these)
+
+    pub first-second : IsFirstForSecondLeg rows counts band class own pairs answer
+    first-second = λ setup state name s avoid same band_is class_is own_is legal found rest these.
+        is ∙ ap (answer_for (length pairs))
+        (second-is setup state avoid same band_is legal name s class_is own_is found rest these)

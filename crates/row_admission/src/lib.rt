@@ -3,12 +3,13 @@
 //! of a route and the words of a fibre, and never to the services. It takes no memory.
 #![tactic(auto)]
 
-mod lowest;
+pub mod lowest;
 pub mod placing;
 
 pub use admission::{Admit, Found};
 pub use backup_sharing::Sharing;
 pub use flex_grid::band::Band;
 pub use leg_state::{Class, Leg, Pair};
+pub use lowest::least_back;
 pub use placing::first;
 pub use spectrum_map::Occupied;

@@ -56,8 +56,11 @@ fn least_beside<V: Occupied>(
     sharing.lowest(view, risk, fibres, m, band, Some(own))
 }
 
-// The least centre at which a backup of this class may hold the slot on the route, for this working route.
-pub(crate) fn least_back<V: Occupied>(
+/// The least centre at which a backup of this class may hold a slot of width m, times 12.5 GHz, on the route, for this
+/// working route: the slot lies in one part of the band, no unit of it is lit, and no backup holds one; where the class
+/// shares, others may, but for those whose working route meets the risk of this one. Units that the backup of the own leg
+/// holds are left out of what is shared. None exactly where there is none. Takes no memory.
+pub fn least_back<V: Occupied>(
     view: &V,
     sharing: &Sharing,
     band: Band,

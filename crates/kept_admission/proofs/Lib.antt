@@ -1,0 +1,3 @@
+mod ThereLaws
+mod FirstLaws
+mod LeastBackupLaws

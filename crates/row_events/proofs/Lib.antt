@@ -1,0 +1,2 @@
+mod RowEventLaws
+mod LeaveBothLaws
