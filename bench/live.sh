@@ -1,26 +1,28 @@
 #!/usr/bin/env bash
-# Times `exposed` and `audit` of the mode `live` over 4,096 services and 256 groups, each beside a stream that only begins and ends.
+# Times `exposed`, `lights` and `audit` of the mode `live` over 4,096 services and 256 groups: streams of twenty equal questions, less one
+# that only begins and ends.
 #
-# usage: live.sh
+# usage: live.sh [PROGRAM]     the program of ./eonplan, if none is named
 set -eu
 top=$(cd "$(dirname "$0")/.." && pwd)
+program=${1:-$top/eonplan}
 work=$(mktemp -d)
 trap 'rm -rf "$work"' EXIT
-python3 "$top/bench/live_ring.py" "$work/net" "$work/journal"
+. "$top/bench/seconds.sh"
+python3 "$top/bench/journals.py" live "$work/net" "$work/journal"
 printf 'quit\n' >"$work/quit"
-printf 'exposed\n' >"$work/exposed"
-printf 'fail a00\nexposed\n' >"$work/exposed behind a failure"
-printf 'audit s00x00\n' >"$work/audit"
-printf 'lights\n' >"$work/lights"
+asked=20
+yes exposed | head -$asked >"$work/exposed"
+{ echo fail a00 && yes exposed | head -$asked; } >"$work/exposed behind a failure"
+yes audit s00x00 | head -$asked >"$work/audit"
+yes lights | head -$asked >"$work/lights"
 # The first call builds the program, where that is needed.
-"$top/eonplan" live "$work/net" "$work/journal" "$work/quit" >/dev/null
+"$program" live "$work/net" "$work/journal" "$work/quit" >/dev/null
 
-# The seconds of a stream.
-seconds() {
-    local TIMEFORMAT='%R'
-    { time "$top/eonplan" live "$work/net" "$work/journal" "$work/$1" >"$work/out"; } 2>&1
-}
-
-for stream in quit exposed "exposed behind a failure" audit lights; do
-    echo "$stream: $(seconds "$stream") s, $(wc -l <"$work/out") lines, first: $(head -1 "$work/out")"
+opening=$(seconds "$program" live "$work/net" "$work/journal" "$work/quit")
+echo "the opening and quit: $opening s"
+for stream in exposed "exposed behind a failure" audit lights; do
+    took=$(seconds "$program" live "$work/net" "$work/journal" "$work/$stream")
+    awk -v a="$opening" -v b="$took" -v of="$stream" -v n="$asked" -v first="$(head -1 "$work/out")" \
+        'BEGIN { printf "%s: %.0f ms a question, the first line is %s\n", of, (b - a) * 1000 / n, first }'
 done
